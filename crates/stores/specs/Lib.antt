@@ -1,0 +1,4 @@
+pub mod Meaning
+pub mod Slots
+pub mod Array
+pub mod Window
