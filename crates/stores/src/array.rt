@@ -6,7 +6,7 @@ ghost use mathlib.Core.Path.{_≡_};
 ghost use Rattle.std.specs.Of.Vec.{vec-items};
 ghost use Rattle.std.specs.declared.option.Option.the-variants.{None};
 ghost use Rattle.stores.specs.Array.{array-entry, array-held, array-kept, array-lasting, array-taken};
-use crate::slots::empty_all;
+use crate::slots::emptied;
 use crate::slots::first_of;
 use crate::store::NotTaken;
 use crate::store::Store;
@@ -18,13 +18,14 @@ pub struct ArrayStore<V: Copy> {
 
 impl<V: Copy> ArrayStore<V> {
     // Empties all the slots, also those that don't count.
-    pub fn new(mut slots: Vec<Option<V>>) -> ArrayStore<V>
+    pub fn new(slots: Vec<Option<V>>) -> ArrayStore<V>
         ensures nothing { λ r. ⌜ ((a : ℕ) → array-entry r a ≡ None) ⌝ }
         ensures taken { λ r. ⌜ ((a : ℕ) → array-taken r a ≡ ltb a (min 65536 (length (vec-items slots)))) ⌝ }
         ensures slots { λ r. ⌜ vec-items (r .slots) ≡ replicate (length (vec-items slots)) None ⌝ }
     {
-        empty_all(slots.as_mut_slice(), None);
-        ArrayStore { slots }
+        ArrayStore {
+            slots: emptied(slots, None),
+        }
     }
 
     // Gives back the slots that it was made with.

@@ -1,0 +1,5 @@
+pub mod Counts
+mod Fresh
+mod Probes
+mod Shifts
+mod Tables

@@ -1,0 +1,4 @@
+pub mod Counting
+pub mod Hash
+pub mod Holding
+pub mod Probing

@@ -1,0 +1,112 @@
+// Slots in a ring: an address is looked for from its home slot on.
+ghost use Prim.Native.Nat.{_<_, _≤_};
+ghost use lib.ListN.{length, set};
+ghost use mathlib.Core.Path.{_≡_};
+ghost use Rattle.hash_store.specs.Probing.{Closed, Found, Reached, Single, Vacant, away, count, home-of, ring, slot-at};
+ghost use Rattle.hash_store.specs.declared.slot.Slot.the-variants.{Empty};
+use crate::slot::Slot;
+
+fn home(a: u32, n: usize) -> usize
+    requires { ⌜ 0 < n ⌝ }
+    ensures { λ r. ⌜ r ≡ home-of a n ⌝ ∗ ⌜ r < n ⌝ }
+{
+    a as usize % n
+}
+
+// The place d places on from h.
+fn along(h: usize, d: usize, n: usize) -> usize
+    requires { ⌜ h < n ⌝ ∗ ⌜ d < n ⌝ ∗ ⌜ n ≤ 65536 ⌝ }
+    ensures { λ r. ⌜ r ≡ ring h d n ⌝ ∗ ⌜ r < n ⌝ }
+{
+    if h + d < n { h + d } else { h + d - n }
+}
+
+// How many places on from h the place j is.
+fn distance(h: usize, j: usize, n: usize) -> usize
+    requires { ⌜ h < n ⌝ ∗ ⌜ j < n ⌝ ∗ ⌜ n ≤ 65536 ⌝ }
+    ensures { λ r. ⌜ r ≡ away h j n ⌝ }
+{
+    if j < h { j + n - h } else { j - h }
+}
+
+pub(crate) fn slot_of<V: Copy>(slots: &[Slot<V>], i: usize) -> Slot<V>
+    ensures { λ r. ⌜ r ≡ slot-at (now (slots .entry)) i ⌝ }
+{
+    match slots.get(i) {
+        Some(slot) => *slot,
+        None => Slot::Empty,
+    }
+}
+
+// The slot that holds the address.
+pub(crate) fn find<V: Copy>(slots: &[Slot<V>], a: u32) -> Option<usize>
+    requires small { ⌜ length (now slots) ≤ 65536 ⌝ }
+    requires reached { ⌜ Reached (length (now slots)) (now slots) ⌝ }
+    ensures { λ r. ⌜ Found (now (slots .entry)) a r ⌝ }
+{
+    let n = slots.len();
+    if n == 0 {
+        return None;
+    }
+    let h = home(a, n);
+    for d in 0..n {
+        let i = along(h, d, n);
+        let slot = slot_of(slots, i);
+        if slot.is_empty() {
+            return None;
+        }
+        if slot.has(a) {
+            return Some(i);
+        }
+    }
+    None
+}
+
+// The first empty slot from the address's home on.
+pub(crate) fn vacant<V: Copy>(slots: &[Slot<V>], a: u32) -> usize
+    requires small { ⌜ length (now slots) ≤ 65536 ⌝ }
+    requires some { ⌜ count (now slots) < length (now slots) ⌝ }
+    ensures { λ r. ⌜ Vacant (now (slots .entry)) a r ⌝ }
+{
+    let n = slots.len();
+    let h = home(a, n);
+    for d in 0..n {
+        let i = along(h, d, n);
+        let slot = slot_of(slots, i);
+        if slot.is_empty() {
+            return i;
+        }
+    }
+    unreachable()
+}
+
+// Empties the slot i. The entries behind it that passed it on their way from home move back.
+pub(crate) fn close<V: Copy>(slots: &mut [Slot<V>], i: usize)
+    requires inside { ⌜ i < length (now slots) ⌝ }
+    requires small { ⌜ length (now slots) ≤ 65536 ⌝ }
+    requires single { ⌜ Single (set (now slots) i Empty) ⌝ }
+    requires reached { ⌜ Reached (length (now slots)) (now slots) ⌝ }
+    ensures closed { λ _. ⌜ Closed (now (slots .entry)) (now (slots .exit)) i ⌝ }
+    ensures long { λ _. ⌜ length (now (slots .exit)) ≡ length (now (slots .entry)) ⌝ }
+{
+    let n = slots.len();
+    let mut hole = i;
+    let mut gap = 1;
+    while gap < n {
+        let j = along(hole, gap, n);
+        let slot = slot_of(slots, j);
+        match slot {
+            Slot::Empty => break,
+            Slot::Held(k, v) => {
+                if distance(home(k, n), j, n) < gap {
+                    gap += 1;
+                } else {
+                    slots[hole] = Slot::Held(k, v);
+                    hole = j;
+                    gap = 1;
+                }
+            }
+        }
+    }
+    slots[hole] = Slot::Empty;
+}

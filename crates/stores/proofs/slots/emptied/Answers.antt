@@ -1,0 +1,14 @@
+use mathlib.Core.Path.{_≡_, _∙_, ap, sym}
+use lib.ListN.{length, replicate}
+use Rattle.std.proofs.shelf.Lists.{length-replicate, refilled-is}
+use Rattle.std.specs.Of.Vec.{vec-items}
+use Rattle.stores.proofs.slots.emptied.Needs as need
+
+pub returns : need.returns
+returns g c =
+    let v = c .args .slots in
+    let e = c .args .empty in
+    let n = length (vec-items v) in
+    let ws = c .empty-all .last .slots in
+    let all : ws ≡ replicate n e = c .empty-all .ensures ∙ ap (λ l. replicate (length l) e) (c .as-mut-slice .ensures .value) in
+    refilled-is v ws (ap length all ∙ length-replicate n e ∙ sym (v .ok .0)) ∙ all
