@@ -3,8 +3,10 @@ ghost use Prim.Native.Nat.{_<_, _≤_};
 ghost use lib.ListN.{length, set};
 ghost use mathlib.Core.Path.{_≡_};
 ghost use Rattle.hash_store.specs.Probing.{Closed, Found, Reached, Single, Vacant, away, count, home-of, ring, slot-at};
+ghost use Rattle.stores.specs.Slots.{Slots-kept, counted};
 ghost use Rattle.hash_store.specs.declared.slot.Slot.the-variants.{Empty};
 use crate::slot::Slot;
+use stores::slots::first_of;
 
 fn home(a: u32, n: usize) -> usize
     requires { ⌜ 0 < n ⌝ }
@@ -81,7 +83,7 @@ pub(crate) fn vacant<V: Copy>(slots: &[Slot<V>], a: u32) -> usize
 }
 
 // Empties the slot i. The entries behind it that passed it on their way from home move back.
-pub(crate) fn close<V: Copy>(slots: &mut [Slot<V>], i: usize)
+fn close<V: Copy>(slots: &mut [Slot<V>], i: usize)
     requires inside { ⌜ i < length (now slots) ⌝ }
     requires small { ⌜ length (now slots) ≤ 65536 ⌝ }
     requires single { ⌜ Single (set (now slots) i Empty) ⌝ }
@@ -109,4 +111,16 @@ pub(crate) fn close<V: Copy>(slots: &mut [Slot<V>], i: usize)
         }
     }
     slots[hole] = Slot::Empty;
+}
+
+// The same in all the slots that a store was handed, of which those that count make the ring.
+pub(crate) fn close_counted<V: Copy>(slots: &mut [Slot<V>], i: usize)
+    requires inside { ⌜ i < length (counted (now slots)) ⌝ }
+    requires single { ⌜ Single (set (counted (now slots)) i Empty) ⌝ }
+    requires reached { ⌜ Reached (length (counted (now slots))) (counted (now slots)) ⌝ }
+    ensures closed { λ _. ⌜ Closed (counted (now (slots .entry))) (counted (now (slots .exit))) i ⌝ }
+    ensures kept { λ _. ⌜ Slots-kept (now (slots .entry)) (now (slots .exit)) ⌝ }
+{
+    let n = first_of(slots).len();
+    close(&mut slots[0..n], i);
 }

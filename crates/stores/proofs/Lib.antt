@@ -1,2 +1,1 @@
 pub mod Counted
-mod Rows

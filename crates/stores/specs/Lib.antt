@@ -1,4 +1,2 @@
 pub mod Meaning
 pub mod Slots
-pub mod Array
-pub mod Window

@@ -1,7 +1,4 @@
-//! Safe stores: the values that they keep, what a store is, and two makes of it.
+//! Safe stores: what a store is, and what every make does with its slots.
 
-pub mod array;
-pub mod marked;
 pub mod slots;
 pub mod store;
-pub mod window;

@@ -1,0 +1,20 @@
+use mathlib.Core.Path.{_≡_, subst, sym}
+use Prim.Native.Nat.{_≤_}
+use native.Mathlib.Omega.{arith}
+use lib.ListN.{length}
+use Rattle.std.specs.Of.Vec.{vec-items}
+use Rattle.stores.proofs.Counted.{counted-length}
+use Rattle.hash_store.specs.Probing.{Found, Reached}
+use Rattle.hash_store.proofs.HashStore.find.Needs as need
+
+pub find-requires : need.find-requires
+find-requires g c κs =
+    let s = c .args .self .now in
+    let lent = sym (c .ring .ensures) in
+    record {
+      small = subst (λ l. length l ≤ 65536) lent (omega (arith, counted-length (vec-items (s .slots))));
+      reached = subst (λ l. Reached (length l) l) lent (s .reached);
+    }
+
+pub returns : need.returns
+returns g c = subst (λ l. Found l (c .args .a) (c .find .result)) (c .ring .ensures) (c .find .ensures)

@@ -1,0 +1,81 @@
+use mathlib.Core.Path.{_≡_, _∙_, subst, sym}
+use Prim.Native.Nat.{_-_, _<_}
+use native.Mathlib.Omega.{arith}
+use lib.ListN.{length, set}
+use Rattle.std.proofs.shelf.Lists.{refilled-is}
+use Rattle.std.specs.Of.Vec.{vec-items}
+use Rattle.stores.specs.Meaning.{Dropped}
+use Rattle.stores.specs.Slots.{Slots-kept, counted, slots-same}
+use Rattle.stores.proofs.Counted.{counted-long}
+use Rattle.hash_store.specs.Counting.{held-count}
+use Rattle.hash_store.specs.Probing.{Closed, Reached, Single, count, lookup, room}
+use Rattle.hash_store.specs.declared.slot.Slot.the-variants.{Empty}
+use Rattle.hash_store.proofs.Shifts.{closed-drop, closed-held}
+use Rattle.hash_store.proofs.Tables.{drop-count, drop-single, dropped-none}
+use Rattle.hash_store.proofs.HashStoreStore.drop.Needs as need
+
+pub close-counted-requires : need.close-counted-requires
+close-counted-requires g c κs =
+    let s = c .args .self .now in
+    let i = c .in-Some .i in
+    let f = c .in-Some .ensures tt in
+    let lent = sym (c .as-mut-slice .ensures .value) in
+    record {
+      inside = subst (λ l. i < length (counted l)) lent (f .0);
+      single = subst (λ l. Single (set (counted l) i Empty)) lent (drop-single (counted (vec-items (s .slots))) i (c .args .a) (f .0) (f .1) (s .single));
+      reached = subst (λ l. Reached (length (counted l)) (counted l)) lent (s .reached);
+    }
+
+pub sub-self : need.sub-self
+sub-self g c =
+    let s = c .args .self .now in
+    let f = c .in-Some .ensures tt in
+    omega (arith, s .filled, drop-count (counted (vec-items (s .slots))) (c .in-Some .i) (c .args .a) (f .0) (f .1))
+
+pub ghost-self : need.ghost-self
+ghost-self g c =
+    let s = c .args .self .now in
+    let v = s .slots in
+    let xs = vec-items v in
+    let ws = c .close-counted .last .slots in
+    let a = c .args .a in
+    let i = c .in-Some .i in
+    let f = c .in-Some .ensures tt in
+    let lent = c .as-mut-slice .ensures .value in
+    let kept = subst (λ l. Slots-kept l ws) lent (c .close-counted .ensures .kept) in
+    let closed = subst (λ l. Closed (counted l) (counted ws) i) lent (c .close-counted .ensures .closed) in
+    let long = counted-long xs ws kept in
+    let e = sym (refilled-is v ws (kept .long ∙ sym (v .ok .0))) in (
+      subst (λ l. s .used - 1 ≡ count (counted l)) e (omega (arith, s .filled, closed .counts, drop-count (counted xs) i a (f .0) (f .1))),
+      (
+        subst (λ l. s .used - 1 ≡ held-count (lookup (counted l))) e (omega (arith, s .holding, closed-held (counted xs) (counted ws) i a (f .0) (f .1) long (s .single) (omega arith) closed)),
+        (
+          subst (λ l. Single (counted l)) e (closed .single),
+          (subst (λ l. Reached (length (counted l)) (counted l)) e (closed .reached), tt),
+        ),
+      ),
+    )
+
+pub returns-in-Some : need.returns-in-Some
+returns-in-Some g c =
+    let s = c .args .self .now in
+    let v = s .slots in
+    let xs = vec-items v in
+    let ws = c .close-counted .last .slots in
+    let a = c .args .a in
+    let i = c .in-Some .i in
+    let f = c .in-Some .ensures tt in
+    let lent = c .as-mut-slice .ensures .value in
+    let kept = subst (λ l. Slots-kept l ws) lent (c .close-counted .ensures .kept) in
+    let closed = subst (λ l. Closed (counted l) (counted ws) i) lent (c .close-counted .ensures .closed) in
+    let long = counted-long xs ws kept in
+    let e = sym (refilled-is v ws (kept .long ∙ sym (v .ok .0))) in
+    record {
+      dropped = subst (λ l. Dropped (lookup (counted xs)) (lookup (counted l)) (room (counted xs)) (room (counted l)) a) e (closed-drop (counted xs) (counted ws) i a (f .0) (f .1) long (s .single) (omega arith) closed (sym (s .holding) ∙ s .filled));
+      kept = subst (Slots-kept xs) e kept;
+    }
+
+pub returns-in-rest : need.returns-in-rest
+returns-in-rest g c =
+    let xs = vec-items (c .args .self .now .slots) in
+    record { dropped = dropped-none (counted xs) (c .args .a) (c .in-rest .ensures tt); kept = slots-same xs }

@@ -1,0 +1,4 @@
+//! Values with a mark.
+
+pub mod bounds;
+pub mod marked;
