@@ -1,10 +1,12 @@
 //! The window: a part of the addresses of a store below, counted from 0.
 
-ghost use Prim.Native.Nat.{_+_, ℕ};
-ghost use mathlib.Core.Bool.{cond};
+ghost use Prim.Native.Nat.{_+_};
+ghost use mathlib.Core.Bool.{cond, false, true};
 ghost use mathlib.Core.Path.{_≡_};
+ghost use Rattle.std.specs.Results.{isOk};
 ghost use Rattle.std.specs.declared.option.Option.the-variants.{None, Some};
-ghost use Rattle.window.specs.Window.{Window-kept, shown-entry, shown-held, shown-taken, shows, window-chained, window-same};
+ghost use Rattle.stores.specs.Meaning.{Dropped, Put};
+ghost use Rattle.window.specs.Window.{Window-kept, shows, window-entry, window-held, window-lasting, window-taken};
 use stores::store::NotTaken;
 use stores::store::Store;
 
@@ -38,7 +40,7 @@ impl<S> Window<S> {
 
     // The address below, if this one is shown.
     fn place(&self, a: u32) -> Option<u32>
-        ensures { λ r. ⌜ r ≡ cond (shows (now (self .entry) .base) (now (self .entry) .len) a) (Some (now (self .entry) .base + a)) None ⌝ }
+        ensures { λ r. ⌜ r ≡ cond (shows (now (self .entry)) a) (Some (now (self .entry) .base + a)) None ⌝ }
     {
         if a < self.len {
             self.base.checked_add(a)
@@ -51,15 +53,15 @@ impl<S> Window<S> {
 pub impl<S: Store> Store for Window<S> as WindowStore {
     type Entry = S::Entry;
 
-    ghost entry = { λ w. shown-entry (w .base) (w .len) (S·Store .entry (w .below)) };
+    ghost entry = { λ w. window-entry (S·Store .entry) w };
 
-    ghost taken = { λ w. shown-taken (w .base) (w .len) (S·Store .taken (w .below)) };
+    ghost taken = { λ w. window-taken (S·Store .taken) w };
 
-    ghost held = { λ w. shown-held (w .base) (w .len) (S·Store .entry (w .below)) (S·Store .taken (w .below)) (S·Store .held (w .below)) };
+    ghost held = { λ w. window-held (S·Store .entry) (S·Store .taken) (S·Store .held) w };
 
-    ghost kept = { λ w x. Window-kept (S·Store .kept) (S·Store .entry) (w .base) (w .len) (w .below) (x .base) (x .len) (x .below) };
+    ghost kept = { λ w x. Window-kept (S·Store .kept) (S·Store .entry) w x };
 
-    ghost lasting = { record { same = λ w. window-same (S·Store .lasting) (S·Store .entry) (w .base) (w .len) (w .below); chained = λ w x y p q. window-chained (S·Store .lasting) (S·Store .entry) p q } };
+    ghost lasting = { window-lasting (S·Store .kept) (S·Store .lasting) (S·Store .entry) };
 
     fn get(&self, a: u32) -> Option<S::Entry> {
         match self.place(a) {
@@ -75,14 +77,27 @@ pub impl<S: Store> Store for Window<S> as WindowStore {
         }
     }
 
-    fn put(&mut self, a: u32, v: S::Entry) -> Result<(), NotTaken> {
+    // Besides what every store promises: it is a put below.
+    fn put(&mut self, a: u32, v: S::Entry) -> Result<(), NotTaken>
+        ensures answer { λ r. ⌜ isOk r ≡ window-taken taken (now (self .entry)) a ⌝ }
+        ensures refused { λ r. ⌜ (isOk r ≡ false → now (self .exit) ≡ now (self .entry)) ⌝ }
+        ensures made { λ r. ⌜ (isOk r ≡ true → Put (window-entry entry (now (self .entry))) (window-entry entry (now (self .exit))) (window-taken taken (now (self .entry))) (window-taken taken (now (self .exit))) a v) ⌝ }
+        ensures kept { λ _. ⌜ Window-kept kept entry (now (self .entry)) (now (self .exit)) ⌝ }
+        ensures below { λ r. ⌜ (isOk r ≡ true → Put (entry (now (self .entry) .below)) (entry (now (self .exit) .below)) (taken (now (self .entry) .below)) (taken (now (self .exit) .below)) (now (self .entry) .base + a) v) ⌝ }
+    {
         match self.place(a) {
             Some(at) => self.below.put(at, v),
             None => Err(NotTaken),
         }
     }
 
-    fn drop(&mut self, a: u32) {
+    // Besides what every store promises: it is a drop below, or nothing at all.
+    fn drop(&mut self, a: u32)
+        ensures dropped { λ _. ⌜ Dropped (window-entry entry (now (self .entry))) (window-entry entry (now (self .exit))) (window-taken taken (now (self .entry))) (window-taken taken (now (self .exit))) a ⌝ }
+        ensures kept { λ _. ⌜ Window-kept kept entry (now (self .entry)) (now (self .exit)) ⌝ }
+        ensures below { λ _. ⌜ (shows (now (self .entry)) a ≡ true → Dropped (entry (now (self .entry) .below)) (entry (now (self .exit) .below)) (taken (now (self .entry) .below)) (taken (now (self .exit) .below)) (now (self .entry) .base + a)) ⌝ }
+        ensures hidden { λ _. ⌜ (shows (now (self .entry)) a ≡ false → now (self .exit) ≡ now (self .entry)) ⌝ }
+    {
         if let Some(at) = self.place(a) {
             self.below.drop(at);
         }
