@@ -1,10 +1,10 @@
 -- What the lines of a script say, word by word.
-use mathlib.Core.Bool.{Bool, _&&_, cond}
+use mathlib.Core.Bool.{Bool, _&&_, cond, false}
 use mathlib.Core.List.{List, [], _∷_}
 use Prim.Native.Nat.{ℕ}
 use Prim.Native.String.{String}
 use lib.Chars.{codes}
-use lib.Dec.{leb, ltb}
+use lib.Dec.{eqb, leb, ltb}
 use Rattle.std.specs.declared.option.Option.{Option}
 use Rattle.std.specs.declared.option.Option.the-variants.{None, Some}
 use Rattle.std.specs.declared.result.Result.{Result}
@@ -16,7 +16,10 @@ use Rattle.script.specs.declared.command.Make.{Make}
 use Rattle.script.specs.declared.command.Make.the-variants.{Array, Hash}
 use Rattle.script.specs.declared.command.Shape.{Shape}
 use Rattle.script.specs.declared.command.View.{View}
-use Rattle.script.specs.declared.command.Call as call
+use Rattle.script.specs.declared.command.Call.{Call}
+use Rattle.script.specs.declared.command.Call.the-variants.{Drop, Get, Put, Takes}
+use Rattle.script.specs.declared.command.Command.{Command}
+use Rattle.script.specs.declared.command.Command.the-variants.{Ask, Build}
 use Rattle.script.specs.declared.fault.Fault.{Fault}
 use Rattle.script.specs.declared.fault.Fault.the-variants.{Bounds, Count, Word}
 use Rattle.script.specs.Numbers.{number}
@@ -77,3 +80,68 @@ take-value ws =
 unfoldable pub at-end : {A : Type 0} → A → Left → Result A Fault
 at-end x [] = Ok x
 at-end x (w ∷ ws) = Err Count
+
+abbrev pub heard : {A B : Type 0} → (A → B) → Result A Fault → Result B Fault
+heard f (Ok x) = Ok (f x)
+heard f (Err e) = Err e
+
+-- what a line says
+pub data Told : Type 0 where
+  build : Shape → Told
+  put : ℕ → Mark → Told
+  drop : ℕ → Told
+  get : ℕ → Told
+  takes : ℕ → Told
+
+abbrev pub said-call : Call → Told
+said-call (Put a v) = put a (mark v)
+said-call (Drop a) = drop a
+said-call (Get a) = get a
+said-call (Takes a) = takes a
+
+abbrev pub said : Command → Told
+said (Build s) = build s
+said (Ask c) = said-call c
+
+unfoldable pub make-of : List ℕ → Result Make Fault
+make-of w = cond (spells w "array") (Ok Array) (cond (spells w "hash") (Ok Hash) (Err Word))
+
+-- `array N` or `hash N`, of which the first word is read
+unfoldable pub shape-words : Option View → List ℕ → Left → Result Shape Fault
+shape-words view w ws = then (answered (λ m. m) (make-of w) ws) (λ m ws. then (take-number 70000 ws) (λ n ws. at-end (record { view = view; make = m; slots = n }) ws))
+
+-- `array N`, `hash N`, `window B L array N` or `window B L hash N`
+unfoldable pub store-words : Left → Result Shape Fault
+store-words ws =
+    then (take-word ws) (λ w ws.
+    cond (spells w "window")
+    (then (take-number largest ws) (λ b ws. then (take-number largest ws) (λ l ws. then (take-word ws) (λ m ws. shape-words (Some (record { base = b; len = l })) m ws))))
+    (shape-words None w ws))
+
+-- `A code F` or `A data W LOW HIGH`
+unfoldable pub put-words : Left → Result Told Fault
+put-words ws = then (take-number largest ws) (λ a ws. then (take-value ws) (λ v ws. at-end (put a v) ws))
+
+-- an address alone
+unfoldable pub address-words : Left → Result ℕ Fault
+address-words ws = then (take-number largest ws) (λ a ws. at-end a ws)
+
+unfoldable pub call-words : List ℕ → Left → Result Told Fault
+call-words verb ws =
+    cond (spells verb "put") (put-words ws)
+    (cond (spells verb "drop") (heard drop (address-words ws))
+    (cond (spells verb "get") (heard get (address-words ws))
+    (cond (spells verb "takes") (heard takes (address-words ws))
+    (Err Word))))
+
+unfoldable pub command-words : List ℕ → Left → Result Told Fault
+command-words verb ws = cond (spells verb "store") (heard build (store-words ws)) (call-words verb ws)
+
+abbrev pub is-comment : List ℕ → Bool
+is-comment [] = false
+is-comment (b ∷ bs) = eqb b 35
+
+-- A line without words, or whose first word begins with #, says nothing.
+unfoldable pub line-words : Left → Result (Option Told) Fault
+line-words [] = Ok None
+line-words (verb ∷ ws) = cond (is-comment verb) (Ok None) (heard Some (command-words verb ws))

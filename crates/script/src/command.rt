@@ -33,6 +33,6 @@ pub enum Call {
 
 #[derive(Clone, Copy)]
 pub enum Command {
-    Make(Shape),
+    Build(Shape),
     Ask(Call),
 }

@@ -2,6 +2,7 @@
 
 pub mod command;
 pub mod fault;
+pub mod line;
 mod number;
 mod reading;
 mod words;
