@@ -1,0 +1,4 @@
+pub mod Answers
+pub mod Builds
+pub mod Calls
+pub mod Sessions

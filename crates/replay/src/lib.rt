@@ -1,0 +1,6 @@
+//! What a replay script does to a store, and the answers that it writes.
+
+pub mod answer;
+pub mod ask;
+pub mod build;
+pub mod session;
