@@ -1,4 +1,5 @@
 pub mod Answers
 pub mod Builds
 pub mod Calls
+pub mod Replies
 pub mod Sessions

@@ -3,4 +3,5 @@
 pub mod answer;
 pub mod ask;
 pub mod build;
+pub mod reply;
 pub mod session;
