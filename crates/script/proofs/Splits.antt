@@ -8,7 +8,7 @@ use native.Mathlib.Omega.{arith}
 use lib.ListN.{drop, getD, length, take}
 use Rattle.std.proofs.shelf.Lists.{append-assoc, drop-more, take-more}
 use Rattle.std.proofs.shelf.Tests.{cases-bool, eq-eqb, ne-eqb, not-from-false, not-from-true}
-use Rattle.script.specs.Words.{after-blanks, after-word, begins-word, blank, first-word, lengthened, words}
+use Rattle.script.specs.Words.{after-blanks, after-word, before, begins-word, blank, first-word, from, lengthened, words}
 
 -- At the byte i of a text.
 module _ (xs : List ℕ) (i : ℕ) (lt : i < length xs) where
@@ -24,19 +24,27 @@ module _ (xs : List ℕ) (i : ℕ) (lt : i < length xs) where
   pub blanks-stop : (here ≡ 32 → ⊥) → after-blanks (drop i xs) ≡ drop i xs
   blanks-stop ne = subst (λ l. after-blanks l ≡ l) (sym at) (rw (ne-eqb here 32 ne) refl)
 
-  pub word-more : (here ≡ 32 → ⊥) → take (i + 1) xs ++ first-word (drop (i + 1) xs) ≡ take i xs ++ first-word (drop i xs)
+-- The same for a byte that texts are cut at.
+module _ (stop : ℕ) (xs : List ℕ) (i : ℕ) (lt : i < length xs) where
+  abbrev this : ℕ
+  this = getD xs i 0
+
+  there : drop i xs ≡ this ∷ drop (i + 1) xs
+  there = drop-more xs i 0 lt
+
+  pub word-more : (this ≡ stop → ⊥) → take (i + 1) xs ++ before stop (drop (i + 1) xs) ≡ take i xs ++ before stop (drop i xs)
   word-more ne =
-      let first : first-word (drop i xs) ≡ here ∷ first-word (drop (i + 1) xs) = subst (λ l. first-word l ≡ here ∷ first-word (drop (i + 1) xs)) (sym at) (rw (ne-eqb here 32 ne) refl) in
-      rw (take-more xs i 0 lt, first) (append-assoc (take i xs) (here ∷ []) (first-word (drop (i + 1) xs)))
+      let first : before stop (drop i xs) ≡ this ∷ before stop (drop (i + 1) xs) = subst (λ l. before stop l ≡ this ∷ before stop (drop (i + 1) xs)) (sym there) (rw (ne-eqb this stop ne) refl) in
+      rw (take-more xs i 0 lt, first) (append-assoc (take i xs) (this ∷ []) (before stop (drop (i + 1) xs)))
 
-  pub rest-more : (here ≡ 32 → ⊥) → after-word (drop (i + 1) xs) ≡ after-word (drop i xs)
-  rest-more ne = sym (subst (λ l. after-word l ≡ after-word (drop (i + 1) xs)) (sym at) (rw (ne-eqb here 32 ne) refl))
+  pub rest-more : (this ≡ stop → ⊥) → from stop (drop (i + 1) xs) ≡ from stop (drop i xs)
+  rest-more ne = sym (subst (λ l. from stop l ≡ from stop (drop (i + 1) xs)) (sym there) (rw (ne-eqb this stop ne) refl))
 
-  pub word-stop : here ≡ 32 → first-word (drop i xs) ≡ []
-  word-stop e = subst (λ l. first-word l ≡ []) (sym at) (rw (eq-eqb here 32 e) refl)
+  pub word-stop : this ≡ stop → before stop (drop i xs) ≡ []
+  word-stop e = subst (λ l. before stop l ≡ []) (sym there) (rw (eq-eqb this stop e) refl)
 
-  pub rest-stop : here ≡ 32 → after-word (drop i xs) ≡ drop i xs
-  rest-stop e = subst (λ l. after-word l ≡ l) (sym at) (rw (eq-eqb here 32 e) refl)
+  pub rest-stop : this ≡ stop → from stop (drop i xs) ≡ drop i xs
+  rest-stop e = subst (λ l. from stop l ≡ l) (sym there) (rw (eq-eqb this stop e) refl)
 
 -- A byte in front of a text: a blank, or a letter of a word.
 module _ (b : ℕ) (bs : List ℕ) where

@@ -12,14 +12,20 @@ abbrev pub after-blanks : List ℕ → List ℕ
 after-blanks [] = []
 after-blanks (b ∷ bs) = cond (blank b) (after-blanks bs) (b ∷ bs)
 
--- the bytes up to the first blank, and the text from there on
+-- the bytes up to the first one that is `stop`, and the text from there on
+abbrev pub before : ℕ → List ℕ → List ℕ
+before stop [] = []
+before stop (b ∷ bs) = cond (eqb b stop) [] (b ∷ before stop bs)
+
+abbrev pub from : ℕ → List ℕ → List ℕ
+from stop [] = []
+from stop (b ∷ bs) = cond (eqb b stop) (b ∷ bs) (from stop bs)
+
 abbrev pub first-word : List ℕ → List ℕ
-first-word [] = []
-first-word (b ∷ bs) = cond (blank b) [] (b ∷ first-word bs)
+first-word = before 32
 
 abbrev pub after-word : List ℕ → List ℕ
-after-word [] = []
-after-word (b ∷ bs) = cond (blank b) (b ∷ bs) (after-word bs)
+after-word = from 32
 
 abbrev pub begins-word : List ℕ → Bool
 begins-word [] = false

@@ -5,4 +5,5 @@ pub mod fault;
 pub mod line;
 mod number;
 mod reading;
+pub mod text;
 mod words;

@@ -2,11 +2,12 @@
 ghost use mathlib.Core.Path.{_≡_};
 ghost use mathlib.Core.Bool.{Bool, true, false, cond};
 ghost use mathlib.Core.List.{[], _∷_};
-ghost use Rattle.script.specs.Words.{after-blanks, after-word, first-word, words};
-ghost use lib.ListN.{drop, length, take};
+ghost use Rattle.script.specs.Words.{after-blanks, words};
+ghost use lib.ListN.{drop, length};
 ghost use Prim.Native.Nat.{ℕ, _≤_, _<_};
 ghost use Rattle.std.specs.Options.{Cases as BySome};
 ghost use Rattle.std.specs.shelf.Text.{sameBytes};
+use crate::text::upto;
 
 // How many blanks the text begins with.
 fn blanks(text: &[u8]) -> usize
@@ -15,20 +16,6 @@ fn blanks(text: &[u8]) -> usize
 {
     for (i, b) in text.iter().enumerate() {
         if *b != b' ' {
-            return i;
-        }
-    }
-    text.len()
-}
-
-// How many bytes the word has that the text begins with.
-fn letters(text: &[u8]) -> usize
-    ensures within { λ r. ⌜ r ≤ length (now (text .entry)) ⌝ }
-    ensures front { λ r. ⌜ take r (now (text .entry)) ≡ first-word (now (text .entry)) ⌝ }
-    ensures behind { λ r. ⌜ drop r (now (text .entry)) ≡ after-word (now (text .entry)) ⌝ }
-{
-    for (i, b) in text.iter().enumerate() {
-        if *b == b' ' {
             return i;
         }
     }
@@ -53,7 +40,7 @@ impl<'a> Words<'a> {
     {
         let start = blanks(self.rest);
         let text = &self.rest[start..];
-        let end = letters(text);
+        let end = upto(text, b' ');
         if end == 0 {
             return None;
         }
