@@ -1,4 +1,4 @@
--- What a write to slots in a row changes.
+-- What empty slots in a row hold.
 use mathlib.Core.List.{List}
 use mathlib.Core.Logic.{⊎-elim}
 use mathlib.Core.Path.{_≡_, _∙_, ap, refl}
@@ -13,22 +13,6 @@ use Rattle.array_store.specs.Array.{row-entry, row-taken}
 use Rattle.stores.specs.Meaning.{Dropped, Others-stay, Put, Still-taken}
 use Rattle.stores.specs.Slots.{counted}
 use Rattle.stores.proofs.Counted.{counted-length, counted-replicate}
-
-module _ {V : Type 0} (xs : List (Option V)) (a : ℕ) where
-  others : (y : Option V) → Others-stay (row-entry xs) (row-entry (set xs a y)) a
-  others y b ne = getD-set-other xs a b y None ne
-
-  still : (y : Option V) → Still-taken (row-taken xs) (row-taken (set xs a y)) a
-  still y b ne t = rw (length-set xs a y) t
-
-  pub row-put : (v : V) → a < length xs → Put (row-entry xs) (row-entry (set xs a (Some v))) (row-taken xs) (row-taken (set xs a (Some v))) a v
-  row-put v lt = record { holds = getD-set-same xs a (Some v) None lt; others = others (Some v); still = λ held. still (Some v) }
-
-  pub row-drop : a < length xs → Dropped (row-entry xs) (row-entry (set xs a None)) (row-taken xs) (row-taken (set xs a None)) a
-  row-drop lt = record { gone = getD-set-same xs a None None lt; others = others None; free = λ held. rw (length-set xs a None) (lt-ltb a (length xs) lt); still = still None }
-
-  pub row-drop-past : length xs ≤ a → Dropped (row-entry xs) (row-entry xs) (row-taken xs) (row-taken xs) a
-  row-drop-past le = record { gone = getD-past xs a None le; others = λ b ne. refl; free = λ held. absurd (both-ways _ (rw (getD-past xs a None le) refl) held); still = λ b ne t. t }
 
 -- n empty slots, of which those that count make an array store
 module _ (V : Type 0) (n : ℕ) where

@@ -9,7 +9,8 @@ use lib.ListN.{length, set, length-set}
 use lib.Seq.{getD-set-same, getD-set-other}
 use lib.Dec.{ltb}
 use Rattle.std.proofs.shelf.Tests.{cases-eq, cases-bool, both-ways, eqb-true, eq-eqb, ne-eqb, lt-ltb, or-left, or-right}
-use Rattle.std.specs.Options.{isSome}
+use Rattle.std.specs.Options.{Cases as BySome, isSome}
+use Rattle.std.specs.declared.option.Option.{Option}
 use Rattle.std.specs.declared.option.Option.the-variants.{Some, None}
 use Rattle.hash_store.specs.declared.slot.Slot.{Slot}
 use Rattle.hash_store.specs.declared.slot.Slot.the-variants.{Empty, Held}
@@ -18,7 +19,7 @@ use Rattle.hash_store.specs.Counting.{held-count}
 use Rattle.hash_store.proofs.Counts.{count-change, count-none}
 use Rattle.hash_store.proofs.Probes.{ring-same, empty-has}
 use Rattle.stores.specs.Meaning.{Put, Dropped as Gone}
-use Rattle.hash_store.specs.Probing.{slot-at, lookup, count, home-of, ring, room, Single, Reached}
+use Rattle.hash_store.specs.Probing.{slot-at, lookup, count, home-of, ring, room, Found, Single, Reached}
 
 one-le : (b : Bool) → cond b 0 1 ≤ 1
 one-le true = omega arith
@@ -57,6 +58,11 @@ module _ {V : Type 0} where
       first t =
           let e : 0 ≡ suc i = single (record { a = a; i = 0; j = suc i; one = t; other = h }) in
           absurd (omega arith)
+
+  -- what a probe finds, by the entries
+  pub found-entry : (xs : List (Slot V)) (a : ℕ) (r : Option ℕ) → Single xs → Found xs a r → BySome r (lookup xs a ≡ None) (λ i. isSome (lookup xs a) ≡ true)
+  found-entry xs a None single none = lookup-none xs a none
+  found-entry xs a (Some i) single f = rw (lookup-at xs a i single (f .1)) (has-holds (slot-at xs i) a (f .1))
 
   pub lookup-set-other : (xs : List (Slot V)) (i : ℕ) (y : Slot V) (b : ℕ) → has (slot-at xs i) b ≡ false → has y b ≡ false → lookup (set xs i y) b ≡ lookup xs b
   lookup-set-other [] i y b old new = refl

@@ -3,11 +3,13 @@
 ghost use Prim.Native.Nat.{min, ℕ};
 ghost use lib.Dec.{ltb};
 ghost use lib.ListN.{length, replicate};
+ghost use mathlib.Core.Bool.{true};
 ghost use mathlib.Core.Path.{_≡_};
 ghost use Rattle.std.specs.Of.Vec.{vec-items};
-ghost use Rattle.std.specs.declared.option.Option.the-variants.{None};
+ghost use Rattle.std.specs.Options.{Cases as BySome, isSome};
+ghost use Rattle.std.specs.declared.option.Option.the-variants.{None, Some};
 ghost use Rattle.hash_store.specs.Counting.{held-count};
-ghost use Rattle.hash_store.specs.Hash.{hash-entry, hash-held, hash-taken};
+ghost use Rattle.hash_store.specs.Hash.{Hash-dropped, Hash-put, hash-entry, hash-held, hash-taken};
 ghost use Rattle.hash_store.specs.Probing.{Found, Reached, Single, count};
 ghost use Rattle.hash_store.specs.declared.slot.Slot.the-variants.{Empty};
 ghost use Rattle.stores.specs.Slots.{Slots-kept, counted, slots-chained, slots-same};
@@ -41,10 +43,17 @@ impl<V: Copy> HashStore<V> {
         ensures taken { λ r. ⌜ ((a : ℕ) → hash-taken (vec-items (r .slots)) a ≡ ltb 0 (min 65536 (length (vec-items slots)))) ⌝ }
         ensures slots { λ r. ⌜ vec-items (r .slots) ≡ replicate (length (vec-items slots)) Empty ⌝ }
     {
-        HashStore {
-            used: 0,
-            slots: emptied(slots, Slot::Empty),
-        }
+        HashStore::over(emptied(slots, Slot::Empty))
+    }
+
+    // The store on empty slots.
+    fn over(slots: Vec<Slot<V>>) -> HashStore<V>
+        requires { ⌜ vec-items slots ≡ replicate (length (vec-items slots)) Empty ⌝ }
+        ensures nothing { λ r. ⌜ ((a : ℕ) → hash-entry (vec-items (r .slots)) a ≡ None) ⌝ }
+        ensures taken { λ r. ⌜ ((a : ℕ) → hash-taken (vec-items (r .slots)) a ≡ ltb 0 (min 65536 (length (vec-items slots)))) ⌝ }
+        ensures slots { λ r. ⌜ r .slots ≡ slots ⌝ }
+    {
+        HashStore { used: 0, slots }
     }
 
     // Gives back the slots that it was made with.
@@ -64,9 +73,55 @@ impl<V: Copy> HashStore<V> {
 
     // The slot that holds the address.
     fn find(&self, a: u32) -> Option<usize>
-        ensures { λ r. ⌜ Found (counted (vec-items (now (self .entry) .slots))) a r ⌝ }
+        ensures found { λ r. ⌜ Found (counted (vec-items (now (self .entry) .slots))) a r ⌝ }
+        ensures entry { λ r. ⌜ BySome r (hash-entry (vec-items (now (self .entry) .slots)) a ≡ None) (λ i. isSome (hash-entry (vec-items (now (self .entry) .slots)) a) ≡ true) ⌝ }
     {
         find(self.ring(), a)
+    }
+
+    fn has_room(&self) -> bool
+        ensures { λ r. ⌜ r ≡ ltb (held-count (hash-entry (vec-items (now (self .entry) .slots)))) (length (counted (vec-items (now (self .entry) .slots)))) ⌝ }
+    {
+        self.used < self.ring().len()
+    }
+
+    // The value in the slot that holds the address.
+    fn value_in(&self, i: usize, a: u32) -> Option<V>
+        requires { ⌜ Found (counted (vec-items (now self .slots))) a (Some i) ⌝ }
+        ensures { λ r. ⌜ r ≡ hash-entry (vec-items (now (self .entry) .slots)) a ⌝ }
+    {
+        slot_of(self.ring(), i).holding(a)
+    }
+
+    // Another value into the slot that holds the address.
+    fn replace(&mut self, i: usize, a: u32, v: V)
+        requires { ⌜ Found (counted (vec-items (now self .slots))) a (Some i) ⌝ }
+        ensures put { λ _. ⌜ Hash-put (vec-items (now (self .entry) .slots)) (vec-items (now (self .exit) .slots)) a v ⌝ }
+        ensures kept { λ _. ⌜ Slots-kept (vec-items (now (self .entry) .slots)) (vec-items (now (self .exit) .slots)) ⌝ }
+    {
+        self.slots[i] = Slot::Held(a, v);
+    }
+
+    // A value for an address that no slot holds.
+    fn insert(&mut self, a: u32, v: V)
+        requires absent { ⌜ Found (counted (vec-items (now self .slots))) a None ⌝ }
+        requires room { ⌜ ltb (held-count (hash-entry (vec-items (now self .slots)))) (length (counted (vec-items (now self .slots)))) ≡ true ⌝ }
+        ensures put { λ _. ⌜ Hash-put (vec-items (now (self .entry) .slots)) (vec-items (now (self .exit) .slots)) a v ⌝ }
+        ensures kept { λ _. ⌜ Slots-kept (vec-items (now (self .entry) .slots)) (vec-items (now (self .exit) .slots)) ⌝ }
+    {
+        let i = vacant(self.ring(), a);
+        self.slots[i] = Slot::Held(a, v);
+        self.used += 1;
+    }
+
+    // Empties the slot that holds the address.
+    fn remove(&mut self, i: usize, a: u32)
+        requires { ⌜ Found (counted (vec-items (now self .slots))) a (Some i) ⌝ }
+        ensures dropped { λ _. ⌜ Hash-dropped (vec-items (now (self .entry) .slots)) (vec-items (now (self .exit) .slots)) a ⌝ }
+        ensures kept { λ _. ⌜ Slots-kept (vec-items (now (self .entry) .slots)) (vec-items (now (self .exit) .slots)) ⌝ }
+    {
+        close_counted(self.slots.as_mut_slice(), i);
+        self.used -= 1;
     }
 }
 
@@ -85,29 +140,24 @@ pub impl<V: Copy> Store for HashStore<V> as HashStoreStore {
 
     fn get(&self, a: u32) -> Option<V> {
         match self.find(a) {
-            Some(i) => slot_of(self.ring(), i).holding(a),
+            Some(i) => self.value_in(i, a),
             None => None,
         }
     }
 
     fn takes(&self, a: u32) -> bool {
-        match self.find(a) {
-            Some(_) => true,
-            None => self.used < self.ring().len(),
-        }
+        self.find(a).is_some() || self.has_room()
     }
 
     fn put(&mut self, a: u32, v: V) -> Result<(), NotTaken> {
         match self.find(a) {
             Some(i) => {
-                self.slots[i] = Slot::Held(a, v);
+                self.replace(i, a, v);
                 Ok(())
             }
             None => {
-                if self.used < self.ring().len() {
-                    let i = vacant(self.ring(), a);
-                    self.slots[i] = Slot::Held(a, v);
-                    self.used += 1;
+                if self.has_room() {
+                    self.insert(a, v);
                     Ok(())
                 } else {
                     Err(NotTaken)
@@ -118,8 +168,7 @@ pub impl<V: Copy> Store for HashStore<V> as HashStoreStore {
 
     fn drop(&mut self, a: u32) {
         if let Some(i) = self.find(a) {
-            close_counted(self.slots.as_mut_slice(), i);
-            self.used -= 1;
+            self.remove(i, a);
         }
     }
 }

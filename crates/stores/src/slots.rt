@@ -16,7 +16,8 @@ fn empty_all<T: Copy>(slots: &mut [T], empty: T)
 
 // The same slots, each of them empty.
 pub fn emptied<T: Copy>(mut slots: Vec<T>, empty: T) -> Vec<T>
-    ensures { λ r. ⌜ vec-items r ≡ replicate (length (vec-items slots)) empty ⌝ }
+    ensures items { λ r. ⌜ vec-items r ≡ replicate (length (vec-items slots)) empty ⌝ }
+    ensures len { λ r. ⌜ length (vec-items r) ≡ length (vec-items slots) ⌝ }
 {
     empty_all(slots.as_mut_slice(), empty);
     slots

@@ -3,8 +3,10 @@ use Prim.Native.Nat.{_≤_}
 use native.Mathlib.Omega.{arith}
 use lib.ListN.{length}
 use Rattle.std.specs.Of.Vec.{vec-items}
+use Rattle.stores.specs.Slots.{counted}
 use Rattle.stores.proofs.Counted.{counted-length}
 use Rattle.hash_store.specs.Probing.{Found, Reached}
+use Rattle.hash_store.proofs.Tables.{found-entry}
 use Rattle.hash_store.proofs.HashStore.find.Needs as need
 
 pub find-requires : need.find-requires
@@ -17,4 +19,8 @@ find-requires g c κs =
     }
 
 pub returns : need.returns
-returns g c = subst (λ l. Found l (c .args .a) (c .find .result)) (c .ring .ensures) (c .find .ensures)
+returns g c =
+    let s = c .args .self .now in
+    let xs = counted (vec-items (s .slots)) in
+    let found = subst (λ l. Found l (c .args .a) (c .find .result)) (c .ring .ensures) (c .find .ensures) in
+    record { found = found; entry = found-entry xs (c .args .a) (c .find .result) (s .single) found }

@@ -11,4 +11,6 @@ returns g c =
     let n = length (vec-items v) in
     let ws = c .empty-all .last .slots in
     let all : ws ≡ replicate n e = c .empty-all .ensures ∙ ap (λ l. replicate (length l) e) (c .as-mut-slice .ensures .value) in
-    refilled-is v ws (ap length all ∙ length-replicate n e ∙ sym (v .ok .0)) ∙ all
+    let long = ap length all ∙ length-replicate n e in
+    let items = refilled-is v ws (long ∙ sym (v .ok .0)) in
+    record { items = items ∙ all; len = ap length items ∙ long }

@@ -12,13 +12,13 @@ use Rattle.hash_store.specs.Probing.{Closed, Reached, Single, count, lookup, r
 use Rattle.hash_store.specs.declared.slot.Slot.the-variants.{Empty}
 use Rattle.hash_store.proofs.Shifts.{closed-drop, closed-held}
 use Rattle.hash_store.proofs.Tables.{drop-count, drop-single, dropped-none}
-use Rattle.hash_store.proofs.HashStoreStore.drop.Needs as need
+use Rattle.hash_store.proofs.HashStore.remove.Needs as need
 
 pub close-counted-requires : need.close-counted-requires
 close-counted-requires g c κs =
     let s = c .args .self .now in
-    let i = c .in-Some .i in
-    let f = c .in-Some .ensures tt in
+    let i = c .args .i in
+    let f = c .pre in
     let lent = sym (c .as-mut-slice .ensures .value) in
     record {
       inside = subst (λ l. i < length (counted l)) lent (f .0);
@@ -29,8 +29,8 @@ close-counted-requires g c κs =
 pub sub-self : need.sub-self
 sub-self g c =
     let s = c .args .self .now in
-    let f = c .in-Some .ensures tt in
-    omega (arith, s .filled, drop-count (counted (vec-items (s .slots))) (c .in-Some .i) (c .args .a) (f .0) (f .1))
+    let f = c .pre in
+    omega (arith, s .filled, drop-count (counted (vec-items (s .slots))) (c .args .i) (c .args .a) (f .0) (f .1))
 
 pub ghost-self : need.ghost-self
 ghost-self g c =
@@ -39,8 +39,8 @@ ghost-self g c =
     let xs = vec-items v in
     let ws = c .close-counted .last .slots in
     let a = c .args .a in
-    let i = c .in-Some .i in
-    let f = c .in-Some .ensures tt in
+    let i = c .args .i in
+    let f = c .pre in
     let lent = c .as-mut-slice .ensures .value in
     let kept = subst (λ l. Slots-kept l ws) lent (c .close-counted .ensures .kept) in
     let closed = subst (λ l. Closed (counted l) (counted ws) i) lent (c .close-counted .ensures .closed) in
@@ -56,15 +56,15 @@ ghost-self g c =
       ),
     )
 
-pub returns-in-Some : need.returns-in-Some
-returns-in-Some g c =
+pub returns : need.returns
+returns g c =
     let s = c .args .self .now in
     let v = s .slots in
     let xs = vec-items v in
     let ws = c .close-counted .last .slots in
     let a = c .args .a in
-    let i = c .in-Some .i in
-    let f = c .in-Some .ensures tt in
+    let i = c .args .i in
+    let f = c .pre in
     let lent = c .as-mut-slice .ensures .value in
     let kept = subst (λ l. Slots-kept l ws) lent (c .close-counted .ensures .kept) in
     let closed = subst (λ l. Closed (counted l) (counted ws) i) lent (c .close-counted .ensures .closed) in
@@ -74,8 +74,3 @@ returns-in-Some g c =
       dropped = subst (λ l. Dropped (lookup (counted xs)) (lookup (counted l)) (room (counted xs)) (room (counted l)) a) e (closed-drop (counted xs) (counted ws) i a (f .0) (f .1) long (s .single) (omega arith) closed (sym (s .holding) ∙ s .filled));
       kept = subst (Slots-kept xs) e kept;
     }
-
-pub returns-in-rest : need.returns-in-rest
-returns-in-rest g c =
-    let xs = vec-items (c .args .self .now .slots) in
-    record { dropped = dropped-none (counted xs) (c .args .a) (c .in-rest .ensures tt); kept = slots-same xs }

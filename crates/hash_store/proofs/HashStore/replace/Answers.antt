@@ -1,0 +1,52 @@
+use mathlib.Core.Path.{_≡_, _∙_, ap, refl, subst, sym}
+use Prim.Native.Nat.{_+_, _<_, _≤_}
+use native.Mathlib.Omega.{arith}
+use lib.ListN.{length, length-set}
+use Rattle.std.proofs.shelf.Tests.{both-ways, le-ltb, lt-ltb}
+use Rattle.std.specs.Of.Vec.{vec-items}
+use Rattle.stores.specs.Meaning.{Put}
+use Rattle.stores.specs.Slots.{counted, slots-same}
+use Rattle.stores.proofs.Counted.{counted-length, counted-set, kept-set}
+use Rattle.hash_store.specs.Counting.{held-count}
+use Rattle.hash_store.specs.Probing.{Reached, Single, Vacant, count, lookup, room}
+use Rattle.hash_store.specs.declared.slot.Slot.the-variants.{Held}
+use Rattle.hash_store.proofs.Probes.{home-inside}
+use Rattle.hash_store.proofs.Tables.{new-count, new-held, new-put, over-count, over-held, over-put, over-reached, over-single, reached-new, room-held, room-none, single-new}
+use Rattle.hash_store.proofs.HashStore.replace.Needs as need
+
+pub index-mut-requires : need.index-mut-requires
+index-mut-requires g c κs =
+    let v = c .args .self .now .slots in
+    omega (arith, c .pre .0, counted-length (vec-items v), v .ok .0)
+
+pub ghost-self : need.ghost-self
+ghost-self g c =
+    let s = c .args .self .now in
+    let xs = counted (vec-items (s .slots)) in
+    let a = c .args .a in
+    let v = c .args .v in
+    let i = c .args .i in
+    let f = c .pre in
+    let w = sym (counted-set (vec-items (s .slots)) i (Held a v)) in (
+      subst (λ l. s .used ≡ count l) w (s .filled ∙ sym (over-count xs i a v (f .0) (f .1))),
+      (
+        subst (λ l. s .used ≡ held-count (lookup l)) w (s .holding ∙ sym (over-held xs i a v (f .0) (f .1) (s .single) (omega arith))),
+        (
+          subst Single w (over-single xs i a v (f .0) (f .1) (s .single)),
+          (subst (λ l. Reached (length l) l) w (over-reached xs i a v (f .0) (f .1) (s .reached)), tt),
+        ),
+      ),
+    )
+
+pub returns : need.returns
+returns g c =
+    let s = c .args .self .now in
+    let xs = vec-items (s .slots) in
+    let a = c .args .a in
+    let v = c .args .v in
+    let i = c .args .i in
+    let f = c .pre in
+    record {
+      put = subst (λ l. Put (lookup (counted xs)) (lookup l) (room (counted xs)) (room l) a v) (sym (counted-set xs i (Held a v))) (over-put (counted xs) i a v (f .0) (f .1) (s .single) (omega arith));
+      kept = kept-set xs i (Held a v) (f .0);
+    }
