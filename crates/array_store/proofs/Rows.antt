@@ -1,16 +1,15 @@
 -- What empty slots in a row hold.
 use mathlib.Core.List.{List}
 use mathlib.Core.Logic.{⊎-elim}
-use mathlib.Core.Path.{_≡_, _∙_, ap, refl}
-use Prim.Native.Nat.{_<_, _≤_, min, ℕ}
+use mathlib.Core.Path.{_≡_, _∙_, ap}
+use Prim.Native.Nat.{min, ℕ}
 use lib.Dec.{ltb}
-use lib.ListN.{length, replicate, set}
-use Rattle.std.proofs.shelf.Lists.{getD-past, getD-replicate, getD-set-other, getD-set-same, length-replicate, length-set}
-use Rattle.std.proofs.shelf.Tests.{both-ways, cases-lt, lt-ltb}
+use lib.ListN.{replicate}
+use Rattle.std.proofs.shelf.Lists.{getD-past, getD-replicate, length-replicate}
+use Rattle.std.proofs.shelf.Tests.{cases-lt}
 use Rattle.std.specs.declared.option.Option.{Option}
-use Rattle.std.specs.declared.option.Option.the-variants.{None, Some}
+use Rattle.std.specs.declared.option.Option.the-variants.{None}
 use Rattle.array_store.specs.Array.{row-entry, row-taken}
-use Rattle.stores.specs.Meaning.{Dropped, Others-stay, Put, Still-taken}
 use Rattle.stores.specs.Slots.{counted}
 use Rattle.stores.proofs.Counted.{counted-length, counted-replicate}
 

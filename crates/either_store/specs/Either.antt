@@ -1,6 +1,5 @@
 -- What a store that is one of two means: what the one means that it is.
 use mathlib.Core.Bool.{Bool}
-use mathlib.Core.Path.{_≡_}
 use Prim.Native.Nat.{ℕ}
 use Rattle.std.specs.declared.option.Option.{Option}
 use Rattle.stores.specs.Meaning.{Held-taken, Lasting}

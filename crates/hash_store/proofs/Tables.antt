@@ -7,8 +7,7 @@ use Prim.Native.Nat.{ℕ, zero, suc, _+_, _-_, _^_, _<_, _≤_}
 use native.Mathlib.Omega.{arith}
 use lib.ListN.{length, set, length-set}
 use lib.Seq.{getD-set-same, getD-set-other}
-use lib.Dec.{ltb}
-use Rattle.std.proofs.shelf.Tests.{cases-eq, cases-bool, both-ways, eqb-true, eq-eqb, ne-eqb, lt-ltb, or-left, or-right}
+use Rattle.std.proofs.shelf.Tests.{cases-eq, cases-bool, both-ways, eqb-true, eq-eqb, ne-eqb, lt-ltb, or-right}
 use Rattle.std.specs.Options.{Cases as BySome, isSome}
 use Rattle.std.specs.declared.option.Option.{Option}
 use Rattle.std.specs.declared.option.Option.the-variants.{Some, None}
@@ -18,7 +17,7 @@ use Rattle.hash_store.specs.Holding.{holding, has, is-empty}
 use Rattle.hash_store.specs.Counting.{held-count}
 use Rattle.hash_store.proofs.Counts.{count-change, count-none}
 use Rattle.hash_store.proofs.Probes.{ring-same, empty-has}
-use Rattle.stores.specs.Meaning.{Put, Dropped as Gone}
+use Rattle.stores.specs.Meaning.{Put}
 use Rattle.hash_store.specs.Probing.{slot-at, lookup, count, home-of, ring, room, Found, Single, Reached}
 
 one-le : (b : Bool) → cond b 0 1 ≤ 1
@@ -230,21 +229,6 @@ module _ {V : Type 0} where
         let after : isSome (lookup cleared a) ≡ false = rw (lookup-none cleared a (drop-none single)) refl in
         let c = rw (before, after) at (count-change (lookup xs) (lookup cleared) a drop-others fits) in
         omega arith
-
-  -- Nothing stands at a, and nothing is dropped.
-  pub dropped-none : (xs : List (Slot V)) (a : ℕ) → ((j : ℕ) → has (slot-at xs j) a ≡ false) → Gone (lookup xs) (lookup xs) (room xs) (room xs) a
-  dropped-none xs a none = record {
-    gone = lookup-none xs a none;
-    others = λ b ne. refl;
-    free = λ held. rw held refl;
-    still = λ b ne h. h;
-  }
-
-  pub room-held : (xs : List (Slot V)) (a i : ℕ) → Single xs → has (slot-at xs i) a ≡ true → room xs a ≡ true
-  room-held xs a i single h = or-left (isSome (lookup xs a)) (ltb (held-count (lookup xs)) (length xs)) (rw (lookup-at xs a i single h) (has-holds (slot-at xs i) a h))
-
-  pub room-none : (xs : List (Slot V)) (a : ℕ) → ((j : ℕ) → has (slot-at xs j) a ≡ false) → room xs a ≡ ltb (held-count (lookup xs)) (length xs)
-  room-none xs a none = rw (lookup-none xs a none) refl
 
   -- slots that are all empty
   module _ (xs : List (Slot V)) (clear : (i : ℕ) → slot-at xs i ≡ Empty) where

@@ -6,7 +6,7 @@ use Prim.Native.Nat.{_*_, _+_, _-_, _<_, _≤_, ℕ}
 use lib.ListN.{drop, getD, length, take}
 use Rattle.std.proofs.shelf.Lists.{drop-more, take-more}
 use Rattle.std.proofs.shelf.Ways.{tells}
-use Rattle.std.proofs.shelf.Tests.{and-left, and-right}
+use Rattle.std.proofs.shelf.Tests.{and-left}
 use native.Mathlib.Omega.{arith}
 use Rattle.std.specs.Text.{asciiDigit}
 use Rattle.std.specs.shelf.Text.{allDigits}

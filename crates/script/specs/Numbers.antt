@@ -1,5 +1,5 @@
 -- Decimal numbers of 32 bits.
-use mathlib.Core.Bool.{Bool, _&&_, cond}
+use mathlib.Core.Bool.{cond}
 use mathlib.Core.List.{List, [], _∷_}
 use Prim.Native.Nat.{_*_, _+_, _-_, ℕ}
 use lib.Dec.{leb}

@@ -1,10 +1,9 @@
 // The words of a line, parted by blanks.
 ghost use mathlib.Core.Path.{_≡_};
-ghost use mathlib.Core.Bool.{Bool, true, false, cond};
 ghost use mathlib.Core.List.{[], _∷_};
 ghost use Rattle.script.specs.Words.{after-blanks, words};
 ghost use lib.ListN.{drop, length};
-ghost use Prim.Native.Nat.{ℕ, _≤_, _<_};
+ghost use Prim.Native.Nat.{_≤_, _<_};
 ghost use Rattle.std.specs.Options.{Cases as BySome};
 ghost use Rattle.std.specs.shelf.Text.{sameBytes};
 use crate::text::upto;

@@ -1,10 +1,10 @@
 -- Laws of the slots that count.
 use mathlib.Core.List.{List, [], _++_, _∷_}
 use mathlib.Core.Path.{_≡_, _∙_, ap, refl, subst, sym}
-use Prim.Native.Nat.{_-_, _<_, _≤_, min, suc, zero, ℕ}
+use Prim.Native.Nat.{_-_, _<_, min, suc, zero, ℕ}
 use native.Mathlib.Omega.{arith}
 use native.Mathlib.Nat.{le-refl, sub-zero}
-use lib.ListN.{drop, length, replicate, set, take, getD}
+use lib.ListN.{drop, length, replicate, set, take}
 use Rattle.std.proofs.shelf.Lists.{append-nil, drop-all, drop-set-lt, length-append, length-drop, length-replicate, length-set, length-take, take-all, take-at, take-replicate}
 use Rattle.std.proofs.shelf.Parts.{drop-append-drop}
 use Rattle.std.proofs.shelf.Tests.{cases-lt}

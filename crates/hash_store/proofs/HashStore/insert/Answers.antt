@@ -1,17 +1,17 @@
-use mathlib.Core.Path.{_≡_, _∙_, ap, refl, subst, sym}
+use mathlib.Core.Path.{_≡_, ap, subst, sym}
 use Prim.Native.Nat.{_+_, _<_, _≤_}
 use native.Mathlib.Omega.{arith}
 use lib.ListN.{length, length-set}
-use Rattle.std.proofs.shelf.Tests.{both-ways, ltb-true}
+use Rattle.std.proofs.shelf.Tests.{ltb-true}
 use Rattle.std.specs.Of.Vec.{vec-items}
 use Rattle.stores.specs.Meaning.{Put}
-use Rattle.stores.specs.Slots.{counted, slots-same}
+use Rattle.stores.specs.Slots.{counted}
 use Rattle.stores.proofs.Counted.{counted-length, counted-set, kept-set}
 use Rattle.hash_store.specs.Counting.{held-count}
 use Rattle.hash_store.specs.Probing.{Reached, Single, Vacant, count, lookup, room}
 use Rattle.hash_store.specs.declared.slot.Slot.the-variants.{Held}
 use Rattle.hash_store.proofs.Probes.{home-inside}
-use Rattle.hash_store.proofs.Tables.{new-count, new-held, new-put, over-count, over-held, over-put, over-reached, over-single, reached-new, room-held, room-none, single-new}
+use Rattle.hash_store.proofs.Tables.{new-count, new-held, new-put, reached-new, single-new}
 use Rattle.hash_store.proofs.HashStore.insert.Needs as need
 
 pub vacant-i-requires : need.vacant-i-requires

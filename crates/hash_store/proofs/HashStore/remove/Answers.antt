@@ -5,13 +5,13 @@ use lib.ListN.{length, set}
 use Rattle.std.proofs.shelf.Lists.{refilled-is}
 use Rattle.std.specs.Of.Vec.{vec-items}
 use Rattle.stores.specs.Meaning.{Dropped}
-use Rattle.stores.specs.Slots.{Slots-kept, counted, slots-same}
+use Rattle.stores.specs.Slots.{Slots-kept, counted}
 use Rattle.stores.proofs.Counted.{counted-long}
 use Rattle.hash_store.specs.Counting.{held-count}
 use Rattle.hash_store.specs.Probing.{Closed, Reached, Single, count, lookup, room}
 use Rattle.hash_store.specs.declared.slot.Slot.the-variants.{Empty}
 use Rattle.hash_store.proofs.Shifts.{closed-drop, closed-held}
-use Rattle.hash_store.proofs.Tables.{drop-count, drop-single, dropped-none}
+use Rattle.hash_store.proofs.Tables.{drop-count, drop-single}
 use Rattle.hash_store.proofs.HashStore.remove.Needs as need
 
 pub close-counted-requires : need.close-counted-requires

@@ -1,17 +1,14 @@
-use mathlib.Core.Path.{_≡_, _∙_, ap, refl, subst, sym}
-use Prim.Native.Nat.{_+_, _<_, _≤_}
+use mathlib.Core.Path.{_≡_, _∙_, subst, sym}
 use native.Mathlib.Omega.{arith}
-use lib.ListN.{length, length-set}
-use Rattle.std.proofs.shelf.Tests.{both-ways, le-ltb, lt-ltb}
+use lib.ListN.{length}
 use Rattle.std.specs.Of.Vec.{vec-items}
 use Rattle.stores.specs.Meaning.{Put}
-use Rattle.stores.specs.Slots.{counted, slots-same}
+use Rattle.stores.specs.Slots.{counted}
 use Rattle.stores.proofs.Counted.{counted-length, counted-set, kept-set}
 use Rattle.hash_store.specs.Counting.{held-count}
-use Rattle.hash_store.specs.Probing.{Reached, Single, Vacant, count, lookup, room}
+use Rattle.hash_store.specs.Probing.{Reached, Single, count, lookup, room}
 use Rattle.hash_store.specs.declared.slot.Slot.the-variants.{Held}
-use Rattle.hash_store.proofs.Probes.{home-inside}
-use Rattle.hash_store.proofs.Tables.{new-count, new-held, new-put, over-count, over-held, over-put, over-reached, over-single, reached-new, room-held, room-none, single-new}
+use Rattle.hash_store.proofs.Tables.{over-count, over-held, over-put, over-reached, over-single}
 use Rattle.hash_store.proofs.HashStore.replace.Needs as need
 
 pub index-mut-requires : need.index-mut-requires

@@ -1,8 +1,7 @@
-use mathlib.Core.Bool.{cond, false, true}
+use mathlib.Core.Bool.{false, true}
 use mathlib.Core.Path.{_≡_, _∙_, ap, refl, sym}
 use Prim.Native.Nat.{_^_, min}
 use native.Mathlib.Omega.{arith}
-use lib.ListN.{drop, take}
 use Rattle.std.proofs.shelf.Lists.{drop-all, take-all}
 use Rattle.std.specs.shelf.Text.{allDigits}
 use Rattle.script.specs.Numbers.{value}

@@ -1,6 +1,6 @@
-use mathlib.Core.Path.{_≡_, _∙_, ap, sym}
+use mathlib.Core.Path.{_∙_, ap, sym}
 use native.Mathlib.Nat.{le-refl}
-use lib.ListN.{drop, length}
+use lib.ListN.{length}
 use Rattle.std.proofs.shelf.Lists.{drop-all}
 use Rattle.script.specs.Words.{after-blanks}
 use Rattle.script.proofs.Splits.{blanks-more, blanks-stop}
