@@ -6,8 +6,8 @@ use Rattle.std.specs.Of.Vec.{vec-items}
 use Rattle.std.specs.declared.option.Option.{Option}
 use Rattle.std.specs.declared.option.Option.the-variants.{None, Some}
 use Rattle.array_store.specs.declared.ArrayStore.{ArrayStore}
-use Rattle.either_store.specs.declared.Either.{Either}
-use Rattle.either_store.specs.declared.Either.the-variants.{First, Second}
+use Rattle.replay.specs.declared.either.Either.{Either}
+use Rattle.replay.specs.declared.either.Either.the-variants.{First, Second}
 use Rattle.hash_store.specs.declared.HashStore.{HashStore}
 use Rattle.hash_store.specs.declared.slot.Slot.the-variants.{Empty}
 use Rattle.script.specs.declared.command.Make.{Make}

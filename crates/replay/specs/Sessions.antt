@@ -10,7 +10,7 @@ use Rattle.std.specs.declared.option.Option.the-variants.{None, Some}
 use Rattle.std.specs.declared.result.Result.{Result}
 use Rattle.std.specs.declared.result.Result.the-variants.{Ok}
 use Rattle.array_store.specs.Array.{array-entry, array-kept, array-taken}
-use Rattle.either_store.specs.Either.{Either-kept, either-entry, either-taken}
+use Rattle.replay.specs.Either.{Either-kept, either-entry, either-taken}
 use Rattle.hash_store.specs.Hash.{hash-entry, hash-taken}
 use Rattle.script.specs.declared.command.Call.{Call}
 use Rattle.script.specs.declared.command.Command.{Command}

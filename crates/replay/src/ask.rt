@@ -5,7 +5,7 @@ use script::command::Call;
 use stores::store::Store;
 use values::marked::Marked;
 
-pub fn ask<S: Store<Entry = Marked>>(store: &mut S, call: Call) -> Answer
+pub(crate) fn ask<S: Store<Entry = Marked>>(store: &mut S, call: Call) -> Answer
     ensures asked { λ r. ⌜ Asked (S·Store .entry) (S·Store .taken) (now (store .entry)) call r (now (store .exit)) ⌝ }
     ensures kept { λ _. ⌜ S·Store .kept (now (store .entry)) (now (store .exit)) ⌝ }
 {

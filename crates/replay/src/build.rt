@@ -1,8 +1,8 @@
 // The store that a script asks for.
 ghost use Rattle.std.specs.Vec.{made};
 ghost use Rattle.replay.specs.Builds.{Built, Flat-built};
+use crate::either::Either;
 use array_store::ArrayStore;
-use either_store::Either;
 use hash_store::HashStore;
 use hash_store::slot::Slot;
 use hash_store::slot::SlotClone;
@@ -13,10 +13,10 @@ use std::alloc::Global;
 use values::marked::Marked;
 use window::Window;
 
-pub type Flat = Either<ArrayStore<Marked>, HashStore<Marked>>;
+pub(crate) type Flat = Either<ArrayStore<Marked>, HashStore<Marked>>;
 
 // Either make, behind a window or not.
-pub type Loose = Either<Flat, Window<Flat>>;
+pub(crate) type Loose = Either<Flat, Window<Flat>>;
 
 fn flat(heap: Global, make: Make, slots: u32) -> Result<Flat, AllocError>
     ensures { λ r. ⌜ made r (Flat-built make slots) ⌝ }
@@ -34,7 +34,7 @@ fn flat(heap: Global, make: Make, slots: u32) -> Result<Flat, AllocError>
 }
 
 // Fails only for want of memory.
-pub fn build(heap: Global, shape: Shape) -> Result<Loose, AllocError>
+pub(crate) fn build(heap: Global, shape: Shape) -> Result<Loose, AllocError>
     ensures { λ r. ⌜ made r (Built shape) ⌝ }
 {
     let store = flat(heap, shape.make, shape.slots)?;

@@ -1,7 +1,8 @@
-//! What a replay script does to a store, and the answers that it writes.
+//! What a replay script does to a store, and what its transcript gets for it.
 
 pub mod answer;
-pub mod ask;
-pub mod build;
+mod ask;
+mod build;
+mod either;
 pub mod reply;
 pub mod session;

@@ -6,8 +6,8 @@ use crate::answer::Answer;
 use crate::ask::ask;
 use crate::build::Loose;
 use crate::build::build;
+use crate::either::EitherStore;
 use array_store::ArrayStoreStore;
-use either_store::EitherStore;
 use hash_store::HashStoreStore;
 use script::command::Command;
 use std::alloc::AllocError;
@@ -27,7 +27,7 @@ impl Session {
     }
 
     // Fails only for want of memory, and then changes nothing.
-    pub fn obey(&mut self, heap: Global, command: Command) -> Result<Answer, AllocError>
+    pub(crate) fn obey(&mut self, heap: Global, command: Command) -> Result<Answer, AllocError>
         ensures { λ r. ⌜ Obeyed (now (self .entry) .store) command r (now (self .exit) .store) ⌝ }
     {
         match command {

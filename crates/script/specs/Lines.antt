@@ -142,6 +142,6 @@ is-comment [] = false
 is-comment (b ∷ bs) = eqb b 35
 
 -- A line without words, or whose first word begins with #, says nothing.
-unfoldable pub line-words : Left → Result (Option Told) Fault
+abbrev pub line-words : Left → Result (Option Told) Fault
 line-words [] = Ok None
 line-words (verb ∷ ws) = cond (is-comment verb) (Ok None) (heard Some (command-words verb ws))

@@ -20,7 +20,7 @@ pub enum Fault {
 
 impl Fault {
     // The reason that a transcript gives.
-    pub fn text(self) -> &'static str
+    fn text(self) -> &'static str
         ensures { λ r. ⌜ now r ≡ reason self ⌝ }
     {
         match self {

@@ -20,20 +20,6 @@ mod tests {
     use window::WindowStore;
 
     #[test]
-    fn hash_store_of_two(rt: LibcRuntime) -> Result<(), Fail> {
-        let mut s = HashStore::new(vec![in rt.alloc(); Slot::Empty; 2]?);
-        check_eq(s.put(5, Marked::Code(1)), Ok(()))?;
-        check_eq(s.put(9, Marked::Code(2)), Ok(()))?;
-        check(!s.takes(7))?;
-        check_eq(s.put(7, Marked::Code(3)), Err(NotTaken))?;
-        s.drop(5);
-        check(s.takes(7))?;
-        check_eq(s.get(5), None)?;
-        check_eq(s.get(9), Some(Marked::Code(2)))?;
-        check_eq(s.into_slots().len(), 2)
-    }
-
-    #[test]
     fn window_over_two_hundred(rt: LibcRuntime) -> Result<(), Fail> {
         let slots = vec![in rt.alloc(); None; 200]?;
         let mut w = Window::new(100, 8, ArrayStore::new(slots));

@@ -33,9 +33,9 @@ impl<S> Window<S> {
         let Window {
             base: _,
             len: _,
-            below,
+            below: inner,
         } = self;
-        below
+        inner
     }
 
     // The address below, if this one is shown.

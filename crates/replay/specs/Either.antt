@@ -3,8 +3,8 @@ use mathlib.Core.Bool.{Bool}
 use Prim.Native.Nat.{ℕ}
 use Rattle.std.specs.declared.option.Option.{Option}
 use Rattle.stores.specs.Meaning.{Held-taken, Lasting}
-use Rattle.either_store.specs.declared.Either.{Either}
-use Rattle.either_store.specs.declared.Either.the-variants.{First, Second}
+use Rattle.replay.specs.declared.either.Either.{Either}
+use Rattle.replay.specs.declared.either.Either.the-variants.{First, Second}
 
 module _ {X Y : Type 0} where
   abbrev pub either-entry : {V : Type 0} → (X → ℕ → Option V) → (Y → ℕ → Option V) → Either X Y → ℕ → Option V

@@ -1,11 +1,10 @@
-//! A store that is one of two: what a program chooses when it runs.
-
-ghost use Rattle.either_store.specs.Either.{Either-kept, either-entry, either-held, either-lasting, either-taken};
+// A store that is one of two: what a script chooses when it is read.
+ghost use Rattle.replay.specs.Either.{Either-kept, either-entry, either-held, either-lasting, either-taken};
 use stores::store::NotTaken;
 use stores::store::Store;
 
 #[derive(Drop)]
-pub enum Either<A, B> {
+pub(crate) enum Either<A, B> {
     First(A),
     Second(B),
 }
