@@ -1,20 +1,16 @@
-use mathlib.Core.Path.{_∙_, sym}
-use native.Mathlib.Omega.{arith}
-use borrow.Author.Count.{below-more}
+use mathlib.Core.Path.{_≡_, _∙_, ap, sym}
 use lib.ListN.{length, replicate}
-use Rattle.std.proofs.shelf.Lists.{ext-getD, getD-replicate, getD-set-other, getD-set-same, length-replicate}
+use Rattle.std.proofs.shelf.Lists.{length-replicate, refilled-is}
+use Rattle.std.specs.Of.Vec.{vec-items}
 use Rattle.stores.proofs.slots.empty_all.Needs as need
-
-pub loop-slot-again : need.loop-slot-again
-loop-slot-again g c =
-    let e = c .args .empty in
-    below-more _ _
-    (λ k h. getD-set-other (c .loop-slot .slots) (c .loop-slot .slot-index) k e e (λ same. omega arith) ∙ c .loop-slot .inv k h)
-    (getD-set-same (c .loop-slot .slots) (c .loop-slot .slot-index) e e (omega arith))
 
 pub returns : need.returns
 returns g c =
+    let v = c .args .slots .now in
     let e = c .args .empty in
-    let n = length (c .args .slots .now) in
-    ext-getD e (c .loop-slot .slots) (replicate n e) (c .loop-slot .kept .slots ∙ sym (length-replicate n e))
-    (λ k h. c .loop-slot .inv k (omega arith) ∙ sym (getD-replicate n k e e (omega arith)))
+    let n = length (vec-items v) in
+    let ws = c .overwrite .last .slots in
+    let all : ws ≡ replicate n e = c .overwrite .ensures ∙ ap (λ l. replicate (length l) e) (c .as-mut-slice .ensures .value) in
+    let long = ap length all ∙ length-replicate n e in
+    let items = refilled-is v ws (long ∙ sym (v .ok .0)) in
+    record { items = items ∙ all; len = ap length items ∙ long }
