@@ -13,9 +13,6 @@ mod tests {
     use stores::store::NotTakenDebug;
     use stores::store::NotTakenPartialEq;
     use stores::store::Store;
-    use values::marked::Marked;
-    use values::marked::MarkedDebug;
-    use values::marked::MarkedPartialEq;
     use window::Window;
     use window::WindowStore;
 
@@ -23,10 +20,10 @@ mod tests {
     fn window_over_two_hundred(rt: LibcRuntime) -> Result<(), Fail> {
         let slots = vec![in rt.alloc(); None; 200]?;
         let mut w = Window::new(100, 8, ArrayStore::new(slots));
-        check_eq(w.put(7, Marked::Code(5)), Ok(()))?;
-        check_eq(w.put(8, Marked::Code(6)), Err(NotTaken))?;
+        check_eq(w.put(7, 5u32), Ok(()))?;
+        check_eq(w.put(8, 6u32), Err(NotTaken))?;
         let below = w.into_below();
-        check_eq(below.get(107), Some(Marked::Code(5)))?;
+        check_eq(below.get(107), Some(5u32))?;
         check_eq(below.get(108), None)?;
         check_eq(below.into_slots().len(), 200)
     }
@@ -34,14 +31,14 @@ mod tests {
     #[test]
     fn most_slots_of_an_array_store(rt: LibcRuntime) -> Result<(), Fail> {
         for n in [65_536, 65_537] {
-            let mut s = ArrayStore::new(vec![in rt.alloc(); Some(Marked::Code(1)); n]?);
+            let mut s = ArrayStore::new(vec![in rt.alloc(); Some(1u32); n]?);
             check_eq(s.get(0), None)?;
-            check_eq(s.put(65_535, Marked::Code(2)), Ok(()))?;
-            check_eq(s.put(65_536, Marked::Code(3)), Err(NotTaken))?;
+            check_eq(s.put(65_535, 2u32), Ok(()))?;
+            check_eq(s.put(65_536, 3u32), Err(NotTaken))?;
             let slots = s.into_slots();
             check_eq(slots.len(), n)?;
-            check_eq(slots.get(65_535).copied(), Some(Some(Marked::Code(2))))?;
-            check(slots.get(65_536).copied() != Some(Some(Marked::Code(1))))?;
+            check_eq(slots.get(65_535).copied(), Some(Some(2u32)))?;
+            check(slots.get(65_536).copied() != Some(Some(1u32)))?;
         }
         Ok(())
     }

@@ -2,12 +2,11 @@
 ghost use Rattle.std.specs.declared.option.Option.the-variants.{Some};
 ghost use Rattle.values.specs.Written.{written};
 use crate::bounds::Bounds;
-use crate::bounds::BoundsDebug;
 use crate::bounds::BoundsPartialEq;
 use std::fmt;
 
 // A word with a mark.
-#[derive(Clone, Copy, PartialEq, Eq, Debug)]
+#[derive(Clone, Copy, PartialEq, Eq)]
 pub enum Marked {
     // A function's number.
     Code(u32),
