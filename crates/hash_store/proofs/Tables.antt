@@ -7,18 +7,20 @@ use Prim.Native.Nat.{ℕ, zero, suc, _+_, _-_, _^_, _<_, _≤_}
 use native.Mathlib.Omega.{arith}
 use lib.ListN.{length, set, length-set}
 use lib.Seq.{getD-set-same, getD-set-other}
-use Rattle.std.proofs.shelf.Tests.{cases-eq, cases-bool, both-ways, eqb-true, eq-eqb, ne-eqb, lt-ltb, or-right}
-use Rattle.std.specs.Options.{Cases as BySome, isSome}
-use Rattle.std.specs.declared.option.Option.{Option}
+use Rattle.std.proofs.shelf.Tests.{cases-eq, cases-bool, both-ways, eqb-true, eq-eqb, ne-eqb, le-ltb, lt-ltb, or-right}
+use Rattle.std.specs.Options.{isSome}
 use Rattle.std.specs.declared.option.Option.the-variants.{Some, None}
 use Rattle.hash_store.specs.declared.slot.Slot.{Slot}
 use Rattle.hash_store.specs.declared.slot.Slot.the-variants.{Empty, Held}
+use Rattle.hash_store.specs.declared.probe.Place.{Place}
+use Rattle.hash_store.specs.declared.probe.Place.the-variants as place
+use Rattle.hash_store.specs.Places.{Probed, Tells}
 use Rattle.hash_store.specs.Holding.{holding, has, is-empty}
 use Rattle.hash_store.specs.Counting.{held-count}
 use Rattle.hash_store.proofs.Counts.{count-change, count-none}
 use Rattle.hash_store.proofs.Probes.{ring-same, empty-has}
 use Rattle.stores.specs.Meaning.{Put}
-use Rattle.hash_store.specs.Probing.{slot-at, lookup, count, home-of, ring, room, Found, Single, Reached}
+use Rattle.hash_store.specs.Probing.{slot-at, lookup, count, home-of, ring, room, Single, Reached}
 
 one-le : (b : Bool) → cond b 0 1 ≤ 1
 one-le true = omega arith
@@ -58,11 +60,6 @@ module _ {V : Type 0} where
           let e : 0 ≡ suc i = single (record { a = a; i = 0; j = suc i; one = t; other = h }) in
           absurd (omega arith)
 
-  -- what a probe finds, by the entries
-  pub found-entry : (xs : List (Slot V)) (a : ℕ) (r : Option ℕ) → Single xs → Found xs a r → BySome r (lookup xs a ≡ None) (λ i. isSome (lookup xs a) ≡ true)
-  found-entry xs a None single none = lookup-none xs a none
-  found-entry xs a (Some i) single f = rw (lookup-at xs a i single (f .1)) (has-holds (slot-at xs i) a (f .1))
-
   pub lookup-set-other : (xs : List (Slot V)) (i : ℕ) (y : Slot V) (b : ℕ) → has (slot-at xs i) b ≡ false → has y b ≡ false → lookup (set xs i y) b ≡ lookup xs b
   lookup-set-other [] i y b old new = refl
   lookup-set-other (x ∷ xs) zero y b old new = rw (old, new) refl
@@ -81,6 +78,18 @@ module _ {V : Type 0} where
   pub count-all : (xs : List (Slot V)) → ((i : ℕ) → i < length xs → is-empty (slot-at xs i) ≡ false) → count xs ≡ length xs
   count-all [] each = refl
   count-all (x ∷ xs) each = rw (each 0 (omega arith)) (omega (arith, count-all xs (λ i lt. each (suc i) (omega arith))))
+
+  -- Where a slot is empty, not all are filled.
+  count-lt : (xs : List (Slot V)) (i : ℕ) → i < length xs → is-empty (slot-at xs i) ≡ true → count xs < length xs
+  count-lt [] i lt e = absurd (omega arith)
+  count-lt (x ∷ xs) zero lt e = rw e (omega (arith, count-le xs))
+  count-lt (x ∷ xs) (suc i) lt e = omega (arith, one-le (is-empty x), count-lt xs i (omega arith) e)
+
+  -- what a probe finds, by the entries
+  pub probed-tells : (xs : List (Slot V)) (a : ℕ) (r : Place) → Single xs → held-count (lookup xs) ≡ count xs → Probed xs a r → Tells (lookup xs) (length xs) a r
+  probed-tells xs a (place.Held i) single counts f = rw (lookup-at xs a i single (f .1)) (has-holds (slot-at xs i) a (f .1))
+  probed-tells xs a (place.Vacant i) single counts f = (lookup-none xs a (f .0), lt-ltb _ _ (omega (arith, counts, count-lt xs i (f .1 .inside) (f .1 .empty))))
+  probed-tells xs a place.Full single counts f = (lookup-none xs a (f .0), le-ltb _ _ (omega (arith, counts, f .1)))
 
   pub single-fewer : (xs ys : List (Slot V)) → ((i a : ℕ) → has (slot-at ys i) a ≡ true → has (slot-at xs i) a ≡ true) → Single xs → Single ys
   single-fewer xs ys fewer single t = single (record { a = t .a; i = t .i; j = t .j; one = fewer (t .i) (t .a) (t .one); other = fewer (t .j) (t .a) (t .other) })

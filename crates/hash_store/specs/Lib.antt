@@ -1,4 +1,5 @@
 pub mod Counting
 pub mod Hash
 pub mod Holding
+pub mod Places
 pub mod Probing

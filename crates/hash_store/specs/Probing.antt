@@ -9,7 +9,7 @@ use Rattle.std.specs.Options.{isSome}
 use Rattle.hash_store.specs.Counting.{held-count}
 use Rattle.stores.specs.Meaning.{Held-taken}
 use Rattle.std.specs.declared.option.Option.{Option}
-use Rattle.std.specs.declared.option.Option.the-variants.{Some, None}
+use Rattle.std.specs.declared.option.Option.the-variants.{None}
 use Rattle.hash_store.specs.declared.slot.Slot.{Slot}
 use Rattle.hash_store.specs.declared.slot.Slot.the-variants.{Empty}
 use Rattle.hash_store.specs.Holding.{holding, has, is-empty}
@@ -65,13 +65,12 @@ module _ {V : Type 0} where
   abbrev pub Reached : ℕ → List (Slot V) → Type 0
   Reached n xs = (p : Passed n xs) → is-empty (slot-at xs (ring (home-of (p .a) n) (p .s) n)) ≡ false
 
-  -- What a probe for a finds.
-  abbrev pub Found : List (Slot V) → ℕ → Option ℕ → Type 0
-  Found xs a None = (i : ℕ) → has (slot-at xs i) a ≡ false
-  Found xs a (Some i) = (i < length xs) × (has (slot-at xs i) a ≡ true)
+  -- No slot holds the address a.
+  abbrev pub Absent : List (Slot V) → ℕ → Type 0
+  Absent xs a = (i : ℕ) → has (slot-at xs i) a ≡ false
 
   -- An empty slot i, d places on from a's home, with no empty slot before it.
-  pub record Vacant (xs : List (Slot V)) (a i : ℕ) : Type 0 where
+  pub record Free (xs : List (Slot V)) (a i : ℕ) : Type 0 where
     pub inside : i < length xs
     pub empty : is-empty (slot-at xs i) ≡ true
     pub d : ℕ

@@ -3,20 +3,20 @@
 ghost use Prim.Native.Nat.{min, ℕ};
 ghost use lib.Dec.{ltb};
 ghost use lib.ListN.{length, replicate};
-ghost use mathlib.Core.Bool.{true};
 ghost use mathlib.Core.Path.{_≡_};
 ghost use Rattle.std.specs.Of.Vec.{vec-items};
-ghost use Rattle.std.specs.Options.{Cases as BySome, isSome};
-ghost use Rattle.std.specs.declared.option.Option.the-variants.{None, Some};
+ghost use Rattle.std.specs.declared.option.Option.the-variants.{None};
 ghost use Rattle.hash_store.specs.Counting.{held-count};
 ghost use Rattle.hash_store.specs.Hash.{Hash-dropped, Hash-put, hash-entry, hash-held, hash-taken};
-ghost use Rattle.hash_store.specs.Probing.{Found, Reached, Single, count};
+ghost use Rattle.hash_store.specs.Probing.{Reached, Single, count};
+ghost use Rattle.hash_store.specs.Places.{Probed, Tells};
+ghost use Rattle.hash_store.specs.declared.probe.Place.the-variants.{Held, Vacant};
 ghost use Rattle.hash_store.specs.declared.slot.Slot.the-variants.{Empty};
 ghost use Rattle.stores.specs.Slots.{Slots-kept, counted, slots-chained, slots-same};
+use crate::probe::Place;
 use crate::probe::close_counted;
-use crate::probe::find;
+use crate::probe::probe;
 use crate::probe::slot_of;
-use crate::probe::vacant;
 use crate::slot::Slot;
 use stores::slots::emptied;
 use stores::slots::first_of;
@@ -28,10 +28,8 @@ pub mod slot;
 
 #[derive(Drop)]
 pub struct HashStore<V: Copy> {
-    used: usize,
     slots: Vec<Slot<V>>,
-    ghost filled: { used ≡ count (counted (vec-items slots)) },
-    ghost holding: { used ≡ held-count (hash-entry (vec-items slots)) },
+    ghost counts: { held-count (hash-entry (vec-items slots)) ≡ count (counted (vec-items slots)) },
     ghost single: { Single (counted (vec-items slots)) },
     ghost reached: { Reached (length (counted (vec-items slots))) (counted (vec-items slots)) },
 }
@@ -53,14 +51,14 @@ impl<V: Copy> HashStore<V> {
         ensures taken { λ r. ⌜ ((a : ℕ) → hash-taken (vec-items (r .slots)) a ≡ ltb 0 (min 65536 (length (vec-items slots)))) ⌝ }
         ensures slots { λ r. ⌜ r .slots ≡ slots ⌝ }
     {
-        HashStore { used: 0, slots }
+        HashStore { slots }
     }
 
     // Gives back the slots that it was made with.
     pub fn into_slots(self) -> Vec<Slot<V>>
         ensures { λ r. ⌜ r ≡ self .slots ⌝ }
     {
-        let HashStore { used: _, slots } = self;
+        let HashStore { slots } = self;
         slots
     }
 
@@ -71,23 +69,16 @@ impl<V: Copy> HashStore<V> {
         first_of(self.slots.as_slice())
     }
 
-    // The slot that holds the address.
-    fn find(&self, a: u32) -> Option<usize>
-        ensures found { λ r. ⌜ Found (counted (vec-items (now (self .entry) .slots))) a r ⌝ }
-        ensures entry { λ r. ⌜ BySome r (hash-entry (vec-items (now (self .entry) .slots)) a ≡ None) (λ i. isSome (hash-entry (vec-items (now (self .entry) .slots)) a) ≡ true) ⌝ }
+    fn probe(&self, a: u32) -> Place
+        ensures place { λ r. ⌜ Probed (counted (vec-items (now (self .entry) .slots))) a r ⌝ }
+        ensures tells { λ r. ⌜ Tells (hash-entry (vec-items (now (self .entry) .slots))) (length (counted (vec-items (now (self .entry) .slots)))) a r ⌝ }
     {
-        find(self.ring(), a)
-    }
-
-    fn has_room(&self) -> bool
-        ensures { λ r. ⌜ r ≡ ltb (held-count (hash-entry (vec-items (now (self .entry) .slots)))) (length (counted (vec-items (now (self .entry) .slots)))) ⌝ }
-    {
-        self.used < self.ring().len()
+        probe(self.ring(), a)
     }
 
     // The value in the slot that holds the address.
     fn value_in(&self, i: usize, a: u32) -> Option<V>
-        requires { ⌜ Found (counted (vec-items (now self .slots))) a (Some i) ⌝ }
+        requires { ⌜ Probed (counted (vec-items (now self .slots))) a (Held i) ⌝ }
         ensures { λ r. ⌜ r ≡ hash-entry (vec-items (now (self .entry) .slots)) a ⌝ }
     {
         slot_of(self.ring(), i).holding(a)
@@ -95,33 +86,29 @@ impl<V: Copy> HashStore<V> {
 
     // Another value into the slot that holds the address.
     fn replace(&mut self, i: usize, a: u32, v: V)
-        requires { ⌜ Found (counted (vec-items (now self .slots))) a (Some i) ⌝ }
+        requires { ⌜ Probed (counted (vec-items (now self .slots))) a (Held i) ⌝ }
         ensures put { λ _. ⌜ Hash-put (vec-items (now (self .entry) .slots)) (vec-items (now (self .exit) .slots)) a v ⌝ }
         ensures kept { λ _. ⌜ Slots-kept (vec-items (now (self .entry) .slots)) (vec-items (now (self .exit) .slots)) ⌝ }
     {
         self.slots[i] = Slot::Held(a, v);
     }
 
-    // A value for an address that no slot holds.
-    fn insert(&mut self, a: u32, v: V)
-        requires absent { ⌜ Found (counted (vec-items (now self .slots))) a None ⌝ }
-        requires room { ⌜ ltb (held-count (hash-entry (vec-items (now self .slots)))) (length (counted (vec-items (now self .slots)))) ≡ true ⌝ }
+    // A value for an address that no slot holds, into an empty slot.
+    fn insert(&mut self, i: usize, a: u32, v: V)
+        requires { ⌜ Probed (counted (vec-items (now self .slots))) a (Vacant i) ⌝ }
         ensures put { λ _. ⌜ Hash-put (vec-items (now (self .entry) .slots)) (vec-items (now (self .exit) .slots)) a v ⌝ }
         ensures kept { λ _. ⌜ Slots-kept (vec-items (now (self .entry) .slots)) (vec-items (now (self .exit) .slots)) ⌝ }
     {
-        let i = vacant(self.ring(), a);
         self.slots[i] = Slot::Held(a, v);
-        self.used += 1;
     }
 
     // Empties the slot that holds the address.
     fn remove(&mut self, i: usize, a: u32)
-        requires { ⌜ Found (counted (vec-items (now self .slots))) a (Some i) ⌝ }
+        requires { ⌜ Probed (counted (vec-items (now self .slots))) a (Held i) ⌝ }
         ensures dropped { λ _. ⌜ Hash-dropped (vec-items (now (self .entry) .slots)) (vec-items (now (self .exit) .slots)) a ⌝ }
         ensures kept { λ _. ⌜ Slots-kept (vec-items (now (self .entry) .slots)) (vec-items (now (self .exit) .slots)) ⌝ }
     {
         close_counted(self.slots.as_mut_slice(), i);
-        self.used -= 1;
     }
 }
 
@@ -139,35 +126,30 @@ pub impl<V: Copy> Store for HashStore<V> as HashStoreStore {
     ghost lasting = { record { same = λ s. slots-same (vec-items (s .slots)); chained = λ s t u. slots-chained (vec-items (s .slots)) (vec-items (t .slots)) (vec-items (u .slots)) } };
 
     fn get(&self, a: u32) -> Option<V> {
-        match self.find(a) {
-            Some(i) => self.value_in(i, a),
-            None => None,
+        match self.probe(a) {
+            Place::Held(i) => self.value_in(i, a),
+            Place::Vacant(_) | Place::Full => None,
         }
     }
 
     fn takes(&self, a: u32) -> bool {
-        self.find(a).is_some() || self.has_room()
-    }
-
-    fn put(&mut self, a: u32, v: V) -> Result<(), NotTaken> {
-        match self.find(a) {
-            Some(i) => {
-                self.replace(i, a, v);
-                Ok(())
-            }
-            None => {
-                if self.has_room() {
-                    self.insert(a, v);
-                    Ok(())
-                } else {
-                    Err(NotTaken)
-                }
-            }
+        match self.probe(a) {
+            Place::Held(_) | Place::Vacant(_) => true,
+            Place::Full => false,
         }
     }
 
+    fn put(&mut self, a: u32, v: V) -> Result<(), NotTaken> {
+        match self.probe(a) {
+            Place::Held(i) => self.replace(i, a, v),
+            Place::Vacant(i) => self.insert(i, a, v),
+            Place::Full => return Err(NotTaken),
+        }
+        Ok(())
+    }
+
     fn drop(&mut self, a: u32) {
-        if let Some(i) = self.find(a) {
+        if let Place::Held(i) = self.probe(a) {
             self.remove(i, a);
         }
     }

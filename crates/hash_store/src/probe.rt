@@ -2,8 +2,9 @@
 ghost use Prim.Native.Nat.{_<_, _≤_};
 ghost use lib.ListN.{length, set};
 ghost use mathlib.Core.Path.{_≡_};
-ghost use Rattle.hash_store.specs.Probing.{Closed, Found, Reached, Single, Vacant, away, count, home-of, ring, slot-at};
+ghost use Rattle.hash_store.specs.Probing.{Closed, Reached, Single, away, home-of, ring, slot-at};
 ghost use Rattle.stores.specs.Slots.{Slots-kept, counted};
+ghost use Rattle.hash_store.specs.Places.{Probed};
 ghost use Rattle.hash_store.specs.declared.slot.Slot.the-variants.{Empty};
 use crate::slot::Slot;
 use stores::slots::first_of;
@@ -40,46 +41,38 @@ pub(crate) fn slot_of<V: Copy>(slots: &[Slot<V>], i: usize) -> Slot<V>
     }
 }
 
-// The slot that holds the address.
-pub(crate) fn find<V: Copy>(slots: &[Slot<V>], a: u32) -> Option<usize>
+// Where a probe for an address ends.
+#[derive(Clone, Copy)]
+pub(crate) enum Place {
+    // At the slot that holds it.
+    Held(usize),
+    // At the first empty slot: no slot holds it.
+    Vacant(usize),
+    // Nowhere: no slot holds it, and none is empty.
+    Full,
+}
+
+pub(crate) fn probe<V: Copy>(slots: &[Slot<V>], a: u32) -> Place
     requires small { ⌜ length (now slots) ≤ 65536 ⌝ }
     requires reached { ⌜ Reached (length (now slots)) (now slots) ⌝ }
-    ensures { λ r. ⌜ Found (now (slots .entry)) a r ⌝ }
+    ensures { λ r. ⌜ Probed (now (slots .entry)) a r ⌝ }
 {
     let n = slots.len();
     if n == 0 {
-        return None;
+        return Place::Full;
     }
     let h = home(a, n);
     for d in 0..n {
         let i = along(h, d, n);
         let slot = slot_of(slots, i);
         if slot.is_empty() {
-            return None;
+            return Place::Vacant(i);
         }
         if slot.has(a) {
-            return Some(i);
+            return Place::Held(i);
         }
     }
-    None
-}
-
-// The first empty slot from the address's home on.
-pub(crate) fn vacant<V: Copy>(slots: &[Slot<V>], a: u32) -> usize
-    requires small { ⌜ length (now slots) ≤ 65536 ⌝ }
-    requires some { ⌜ count (now slots) < length (now slots) ⌝ }
-    ensures { λ r. ⌜ Vacant (now (slots .entry)) a r ⌝ }
-{
-    let n = slots.len();
-    let h = home(a, n);
-    for d in 0..n {
-        let i = along(h, d, n);
-        let slot = slot_of(slots, i);
-        if slot.is_empty() {
-            return i;
-        }
-    }
-    unreachable()
+    Place::Full
 }
 
 // Empties the slot i. The entries behind it that passed it on their way from home move back.

@@ -1,35 +1,22 @@
-use mathlib.Core.Path.{_≡_, ap, subst, sym}
-use Prim.Native.Nat.{_+_, _<_, _≤_}
+use mathlib.Core.Path.{_≡_, subst, sym}
+use Prim.Native.Nat.{_<_}
 use native.Mathlib.Omega.{arith}
 use lib.ListN.{length, length-set}
-use Rattle.std.proofs.shelf.Tests.{ltb-true}
 use Rattle.std.specs.Of.Vec.{vec-items}
 use Rattle.stores.specs.Meaning.{Put}
 use Rattle.stores.specs.Slots.{counted}
 use Rattle.stores.proofs.Counted.{counted-length, counted-set, kept-set}
 use Rattle.hash_store.specs.Counting.{held-count}
-use Rattle.hash_store.specs.Probing.{Reached, Single, Vacant, count, lookup, room}
+use Rattle.hash_store.specs.Probing.{Reached, Single, count, lookup, room}
 use Rattle.hash_store.specs.declared.slot.Slot.the-variants.{Held}
 use Rattle.hash_store.proofs.Probes.{home-inside}
 use Rattle.hash_store.proofs.Tables.{new-count, new-held, new-put, reached-new, single-new}
 use Rattle.hash_store.proofs.HashStore.insert.Needs as need
 
-pub vacant-i-requires : need.vacant-i-requires
-vacant-i-requires g c κs =
-    let s = c .args .self .now in
-    let xs = counted (vec-items (s .slots)) in
-    let lent = sym (c .ring .ensures) in
-    let less : held-count (lookup xs) < length xs = ltb-true _ _ (c .pre .room) in
-    record {
-      small = subst (λ l. length l ≤ 65536) lent (omega (arith, counted-length (vec-items (s .slots))));
-      some = subst (λ l. count l < length l) lent (omega (arith, s .filled, s .holding, less));
-    }
-
 pub index-mut-requires : need.index-mut-requires
 index-mut-requires g c κs =
     let v = c .args .self .now .slots in
-    let f = c .vacant-i .ensures .inside in
-    omega (arith, f, ap length (c .ring .ensures), counted-length (vec-items v), v .ok .0)
+    omega (arith, c .pre .1 .inside, counted-length (vec-items v), v .ok .0)
 
 pub ghost-self : need.ghost-self
 ghost-self g c =
@@ -37,18 +24,15 @@ ghost-self g c =
     let xs = counted (vec-items (s .slots)) in
     let a = c .args .a in
     let v = c .args .v in
-    let none = c .pre .absent in
-    let f = subst (λ l. Vacant l a (c .vacant-i .result)) (c .ring .ensures) (c .vacant-i .ensures) in
-    let i = c .vacant-i .result in
+    let i = c .args .i in
+    let none = c .pre .0 in
+    let f = c .pre .1 in
     let within : f .d < length xs = f .within in
     let w = sym (counted-set (vec-items (s .slots)) i (Held a v)) in (
-      subst (λ l. s .used + 1 ≡ count l) w (omega (arith, s .filled, new-count xs i a v (f .inside) none (f .empty))),
+      subst (λ l. held-count (lookup l) ≡ count l) w (omega (arith, s .counts, new-held xs i a v (f .inside) none (f .empty) (s .single) (omega arith), new-count xs i a v (f .inside) none (f .empty))),
       (
-        subst (λ l. s .used + 1 ≡ held-count (lookup l)) w (omega (arith, s .holding, new-held xs i a v (f .inside) none (f .empty) (s .single) (omega arith))),
-        (
-          subst Single w (single-new xs i a v (f .inside) none (f .empty) (s .single)),
-          (subst (λ l. Reached (length l) l) w (rw (length-set xs i _) (reached-new xs i a v (f .inside) (length xs) (f .d) (home-inside a (length xs) (omega (arith, within))) within (f .at) (f .before) (s .reached))), tt),
-        ),
+        subst Single w (single-new xs i a v (f .inside) none (f .empty) (s .single)),
+        (subst (λ l. Reached (length l) l) w (rw (length-set xs i _) (reached-new xs i a v (f .inside) (length xs) (f .d) (home-inside a (length xs) (omega (arith, within))) within (f .at) (f .before) (s .reached))), tt),
       ),
     )
 
@@ -58,9 +42,9 @@ returns g c =
     let xs = vec-items (s .slots) in
     let a = c .args .a in
     let v = c .args .v in
-    let i = c .vacant-i .result in
-    let f = subst (λ l. Vacant l a i) (c .ring .ensures) (c .vacant-i .ensures) in
+    let i = c .args .i in
+    let f = c .pre .1 in
     record {
-      put = subst (λ l. Put (lookup (counted xs)) (lookup l) (room (counted xs)) (room l) a v) (sym (counted-set xs i (Held a v))) (new-put (counted xs) i a v (f .inside) (c .pre .absent) (f .empty) (s .single));
+      put = subst (λ l. Put (lookup (counted xs)) (lookup l) (room (counted xs)) (room l) a v) (sym (counted-set xs i (Held a v))) (new-put (counted xs) i a v (f .inside) (c .pre .0) (f .empty) (s .single));
       kept = kept-set xs i (Held a v) (f .inside);
     }

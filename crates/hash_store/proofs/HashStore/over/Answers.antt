@@ -1,4 +1,4 @@
-use mathlib.Core.Path.{_≡_, refl, subst, sym}
+use mathlib.Core.Path.{_≡_, _∙_, refl, subst, sym}
 use Prim.Native.Nat.{min, ℕ}
 use lib.Dec.{ltb}
 use lib.ListN.{length}
@@ -15,13 +15,10 @@ ghost-result g c =
     let V = g .V .Denot in
     let n = length (vec-items (c .args .slots)) in
     let e = sym (c .pre) in (
-      subst (λ l. 0 ≡ count (counted l)) e (sym (fresh-count V n)),
+      subst (λ l. held-count (lookup (counted l)) ≡ count (counted l)) e (fresh-held V n ∙ sym (fresh-count V n)),
       (
-        subst (λ l. 0 ≡ held-count (lookup (counted l))) e (sym (fresh-held V n)),
-        (
-          subst (λ l. Single (counted l)) e (fresh-single V n),
-          (subst (λ l. Reached (length (counted l)) (counted l)) e (fresh-reached V n), tt),
-        ),
+        subst (λ l. Single (counted l)) e (fresh-single V n),
+        (subst (λ l. Reached (length (counted l)) (counted l)) e (fresh-reached V n), tt),
       ),
     )
 

@@ -26,12 +26,6 @@ close-counted-requires g c κs =
       reached = subst (λ l. Reached (length (counted l)) (counted l)) lent (s .reached);
     }
 
-pub sub-self : need.sub-self
-sub-self g c =
-    let s = c .args .self .now in
-    let f = c .pre in
-    omega (arith, s .filled, drop-count (counted (vec-items (s .slots))) (c .args .i) (c .args .a) (f .0) (f .1))
-
 pub ghost-self : need.ghost-self
 ghost-self g c =
     let s = c .args .self .now in
@@ -46,13 +40,10 @@ ghost-self g c =
     let closed = subst (λ l. Closed (counted l) (counted ws) i) lent (c .close-counted .ensures .closed) in
     let long = counted-long xs ws kept in
     let e = sym (refilled-is v ws (kept .long ∙ sym (v .ok .0))) in (
-      subst (λ l. s .used - 1 ≡ count (counted l)) e (omega (arith, s .filled, closed .counts, drop-count (counted xs) i a (f .0) (f .1))),
+      subst (λ l. held-count (lookup (counted l)) ≡ count (counted l)) e (omega (arith, s .counts, closed .counts, drop-count (counted xs) i a (f .0) (f .1), closed-held (counted xs) (counted ws) i a (f .0) (f .1) long (s .single) (omega arith) closed)),
       (
-        subst (λ l. s .used - 1 ≡ held-count (lookup (counted l))) e (omega (arith, s .holding, closed-held (counted xs) (counted ws) i a (f .0) (f .1) long (s .single) (omega arith) closed)),
-        (
-          subst (λ l. Single (counted l)) e (closed .single),
-          (subst (λ l. Reached (length (counted l)) (counted l)) e (closed .reached), tt),
-        ),
+        subst (λ l. Single (counted l)) e (closed .single),
+        (subst (λ l. Reached (length (counted l)) (counted l)) e (closed .reached), tt),
       ),
     )
 
@@ -71,6 +62,6 @@ returns g c =
     let long = counted-long xs ws kept in
     let e = sym (refilled-is v ws (kept .long ∙ sym (v .ok .0))) in
     record {
-      dropped = subst (λ l. Dropped (lookup (counted xs)) (lookup (counted l)) (room (counted xs)) (room (counted l)) a) e (closed-drop (counted xs) (counted ws) i a (f .0) (f .1) long (s .single) (omega arith) closed (sym (s .holding) ∙ s .filled));
+      dropped = subst (λ l. Dropped (lookup (counted xs)) (lookup (counted l)) (room (counted xs)) (room (counted l)) a) e (closed-drop (counted xs) (counted ws) i a (f .0) (f .1) long (s .single) (omega arith) closed (s .counts));
       kept = subst (Slots-kept xs) e kept;
     }

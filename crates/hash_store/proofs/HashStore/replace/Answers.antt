@@ -25,13 +25,10 @@ ghost-self g c =
     let i = c .args .i in
     let f = c .pre in
     let w = sym (counted-set (vec-items (s .slots)) i (Held a v)) in (
-      subst (λ l. s .used ≡ count l) w (s .filled ∙ sym (over-count xs i a v (f .0) (f .1))),
+      subst (λ l. held-count (lookup l) ≡ count l) w (over-held xs i a v (f .0) (f .1) (s .single) (omega arith) ∙ s .counts ∙ sym (over-count xs i a v (f .0) (f .1))),
       (
-        subst (λ l. s .used ≡ held-count (lookup l)) w (s .holding ∙ sym (over-held xs i a v (f .0) (f .1) (s .single) (omega arith))),
-        (
-          subst Single w (over-single xs i a v (f .0) (f .1) (s .single)),
-          (subst (λ l. Reached (length l) l) w (over-reached xs i a v (f .0) (f .1) (s .reached)), tt),
-        ),
+        subst Single w (over-single xs i a v (f .0) (f .1) (s .single)),
+        (subst (λ l. Reached (length l) l) w (over-reached xs i a v (f .0) (f .1) (s .reached)), tt),
       ),
     )
 

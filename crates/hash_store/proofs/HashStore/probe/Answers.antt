@@ -5,12 +5,13 @@ use lib.ListN.{length}
 use Rattle.std.specs.Of.Vec.{vec-items}
 use Rattle.stores.specs.Slots.{counted}
 use Rattle.stores.proofs.Counted.{counted-length}
-use Rattle.hash_store.specs.Probing.{Found, Reached}
-use Rattle.hash_store.proofs.Tables.{found-entry}
-use Rattle.hash_store.proofs.HashStore.find.Needs as need
+use Rattle.hash_store.specs.Places.{Probed}
+use Rattle.hash_store.specs.Probing.{Reached}
+use Rattle.hash_store.proofs.Tables.{probed-tells}
+use Rattle.hash_store.proofs.HashStore.probe.Needs as need
 
-pub find-requires : need.find-requires
-find-requires g c κs =
+pub probe-requires : need.probe-requires
+probe-requires g c κs =
     let s = c .args .self .now in
     let lent = sym (c .ring .ensures) in
     record {
@@ -22,5 +23,5 @@ pub returns : need.returns
 returns g c =
     let s = c .args .self .now in
     let xs = counted (vec-items (s .slots)) in
-    let found = subst (λ l. Found l (c .args .a) (c .find .result)) (c .ring .ensures) (c .find .ensures) in
-    record { found = found; entry = found-entry xs (c .args .a) (c .find .result) (s .single) found }
+    let place = subst (λ l. Probed l (c .args .a) (c .probe .result)) (c .ring .ensures) (c .probe .ensures) in
+    record { place = place; tells = probed-tells xs (c .args .a) (c .probe .result) (s .single) (s .counts) place }

@@ -1,9 +1,0 @@
-use mathlib.Core.Path.{_≡_}
-use mathlib.Core.Bool.{false}
-use Prim.Native.Nat.{ℕ, _<_}
-use Rattle.hash_store.specs.Holding.{has}
-use Rattle.hash_store.specs.Probing.{slot-at, ring}
-use Rattle.hash_store.proofs.probe.find.Given as given
-
-abbrev pub Inv-loop-d : given.InvT-loop-d
-Inv-loop-d g l = (s : ℕ) → s < l .d → has (slot-at (l .slots) (ring (l .h) s (l .n))) (l .a) ≡ false
