@@ -4,13 +4,14 @@ use mathlib.Core.List.{List, [], _++_, _∷_}
 use mathlib.Core.Path.{_≡_, _∙_, ap, refl, subst, sym}
 use Prim.Native.Nat.{_*_, _+_, _-_, _<_, _≤_, ℕ}
 use lib.ListN.{drop, getD, length, take}
-use Rattle.std.proofs.shelf.Lists.{drop-more, take-more}
+use Rattle.std.proofs.shelf.Lists.{take-more}
 use Rattle.std.proofs.shelf.Ways.{tells}
 use Rattle.std.proofs.shelf.Tests.{and-left}
 use native.Mathlib.Omega.{arith}
 use Rattle.std.specs.Text.{asciiDigit}
 use Rattle.std.specs.shelf.Text.{allDigits}
 use Rattle.script.specs.Numbers.{value}
+use Rattle.script.proofs.Splits.{at}
 
 is-digit : (c : ℕ) → 48 ≤ c → c ≤ 57 → asciiDigit c ≡ true
 is-digit c low high = grind (arith, tells)
@@ -30,14 +31,11 @@ module _ (xs : List ℕ) (i : ℕ) (lt : i < length xs) where
   abbrev here : ℕ
   here = getD xs i 0
 
-  at : drop i xs ≡ here ∷ drop (i + 1) xs
-  at = drop-more xs i 0 lt
-
   pub digits-more : 48 ≤ here → here ≤ 57 → allDigits (drop (i + 1) xs) ≡ allDigits (drop i xs)
-  digits-more low high = sym (subst (λ l. allDigits l ≡ allDigits (drop (i + 1) xs)) (sym at) (rw (is-digit here low high) refl))
+  digits-more low high = sym (subst (λ l. allDigits l ≡ allDigits (drop (i + 1) xs)) (sym (at xs i lt)) (rw (is-digit here low high) refl))
 
   stop : asciiDigit here ≡ false → allDigits (drop i xs) ≡ false
-  stop f = subst (λ l. allDigits l ≡ false) (sym at) (and-left (asciiDigit here) (allDigits (drop (i + 1) xs)) f)
+  stop f = subst (λ l. allDigits l ≡ false) (sym (at xs i lt)) (and-left (asciiDigit here) (allDigits (drop (i + 1) xs)) f)
 
   pub stop-below : here < 48 → allDigits (drop i xs) ≡ false
   stop-below low = stop (below-digits here low)

@@ -15,7 +15,7 @@ module _ (xs : List ℕ) (i : ℕ) (lt : i < length xs) where
   abbrev here : ℕ
   here = getD xs i 0
 
-  at : drop i xs ≡ here ∷ drop (i + 1) xs
+  pub at : drop i xs ≡ here ∷ drop (i + 1) xs
   at = drop-more xs i 0 lt
 
   pub blanks-more : here ≡ 32 → after-blanks (drop (i + 1) xs) ≡ after-blanks (drop i xs)
@@ -24,27 +24,20 @@ module _ (xs : List ℕ) (i : ℕ) (lt : i < length xs) where
   pub blanks-stop : (here ≡ 32 → ⊥) → after-blanks (drop i xs) ≡ drop i xs
   blanks-stop ne = subst (λ l. after-blanks l ≡ l) (sym at) (rw (ne-eqb here 32 ne) refl)
 
--- The same for a byte that texts are cut at.
-module _ (stop : ℕ) (xs : List ℕ) (i : ℕ) (lt : i < length xs) where
-  abbrev this : ℕ
-  this = getD xs i 0
+  module _ (stop : ℕ) where
+    pub word-more : (here ≡ stop → ⊥) → take (i + 1) xs ++ before stop (drop (i + 1) xs) ≡ take i xs ++ before stop (drop i xs)
+    word-more ne =
+        let first : before stop (drop i xs) ≡ here ∷ before stop (drop (i + 1) xs) = subst (λ l. before stop l ≡ here ∷ before stop (drop (i + 1) xs)) (sym at) (rw (ne-eqb here stop ne) refl) in
+        rw (take-more xs i 0 lt, first) (append-assoc (take i xs) (here ∷ []) (before stop (drop (i + 1) xs)))
 
-  there : drop i xs ≡ this ∷ drop (i + 1) xs
-  there = drop-more xs i 0 lt
+    pub rest-more : (here ≡ stop → ⊥) → from stop (drop (i + 1) xs) ≡ from stop (drop i xs)
+    rest-more ne = sym (subst (λ l. from stop l ≡ from stop (drop (i + 1) xs)) (sym at) (rw (ne-eqb here stop ne) refl))
 
-  pub word-more : (this ≡ stop → ⊥) → take (i + 1) xs ++ before stop (drop (i + 1) xs) ≡ take i xs ++ before stop (drop i xs)
-  word-more ne =
-      let first : before stop (drop i xs) ≡ this ∷ before stop (drop (i + 1) xs) = subst (λ l. before stop l ≡ this ∷ before stop (drop (i + 1) xs)) (sym there) (rw (ne-eqb this stop ne) refl) in
-      rw (take-more xs i 0 lt, first) (append-assoc (take i xs) (this ∷ []) (before stop (drop (i + 1) xs)))
+    pub word-stop : here ≡ stop → before stop (drop i xs) ≡ []
+    word-stop e = subst (λ l. before stop l ≡ []) (sym at) (rw (eq-eqb here stop e) refl)
 
-  pub rest-more : (this ≡ stop → ⊥) → from stop (drop (i + 1) xs) ≡ from stop (drop i xs)
-  rest-more ne = sym (subst (λ l. from stop l ≡ from stop (drop (i + 1) xs)) (sym there) (rw (ne-eqb this stop ne) refl))
-
-  pub word-stop : this ≡ stop → before stop (drop i xs) ≡ []
-  word-stop e = subst (λ l. before stop l ≡ []) (sym there) (rw (eq-eqb this stop e) refl)
-
-  pub rest-stop : this ≡ stop → from stop (drop i xs) ≡ drop i xs
-  rest-stop e = subst (λ l. from stop l ≡ l) (sym there) (rw (eq-eqb this stop e) refl)
+    pub rest-stop : here ≡ stop → from stop (drop i xs) ≡ drop i xs
+    rest-stop e = subst (λ l. from stop l ≡ l) (sym at) (rw (eq-eqb here stop e) refl)
 
 -- A byte in front of a text: a blank, or a letter of a word.
 module _ (b : ℕ) (bs : List ℕ) where

@@ -16,8 +16,8 @@ returns-then-b-stop c =
     let e = c .if-b-stop .taken in
     record {
       within = c .loop-i .kept .i-end;
-      front = sym (append-nil (take i xs)) ∙ ap (λ w. take i xs ++ w) (sym (word-stop stop xs i lt e)) ∙ c .loop-i .inv .0;
-      behind = sym (rest-stop stop xs i lt e) ∙ c .loop-i .inv .1;
+      front = sym (append-nil (take i xs)) ∙ ap (λ w. take i xs ++ w) (sym (word-stop xs i lt stop e)) ∙ c .loop-i .inv .0;
+      behind = sym (rest-stop xs i lt stop e) ∙ c .loop-i .inv .1;
     }
 
 pub loop-i-again : need.loop-i-again
@@ -27,7 +27,7 @@ loop-i-again c =
     let i = c .loop-i .i in
     let lt = c .loop-i-test .taken in
     let ne = c .if-b-stop .left in
-    (word-more stop xs i lt ne ∙ c .loop-i .inv .0, rest-more stop xs i lt ne ∙ c .loop-i .inv .1)
+    (word-more xs i lt stop ne ∙ c .loop-i .inv .0, rest-more xs i lt stop ne ∙ c .loop-i .inv .1)
 
 pub returns : need.returns
 returns c =
