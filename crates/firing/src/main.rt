@@ -33,13 +33,14 @@ fn segment_name(function: u32) -> &'static str {
     }
 }
 
-fn function_at(table: &Table, place: u32) -> Option<u32> {
-    match table.get(place) {
-        Some(value) => match value {
-            Marked::Code(function) => Some(function),
-            Marked::Data(_, _) => None,
+// The function that a value names, or 0.
+fn function_of(value: Option<Marked>) -> u32 {
+    match value {
+        Some(marked) => match marked {
+            Marked::Code(function) => function,
+            Marked::Data(_, _) => 0,
         },
-        None => None,
+        None => 0,
     }
 }
 
@@ -72,7 +73,7 @@ fn compare(rt: &LibcRuntime, table: &Table, memory: &[u32]) -> Result<(), AnyErr
     for place in 0..SEGMENTS {
         let word = word_at(memory, place);
         let wrong = segment_name(word);
-        let kept = function_at(table, place).unwrap_or(0);
+        let kept = function_of(table.get(place));
         let name = segment_name(kept);
         println!(
             rt,
@@ -86,38 +87,52 @@ fn compare(rt: &LibcRuntime, table: &Table, memory: &[u32]) -> Result<(), AnyErr
     Ok(())
 }
 
-fn fire(rt: &LibcRuntime) -> Result<(), AnyError> {
-    let heap = rt.alloc();
-    let mut memory = vec![in heap; 0u32; MEMORY]?;
-    let slots = vec![in heap; Slot::Empty; SLOTS]?;
-    let mut table = Window::new(TABLE, SEGMENTS, HashStore::new(slots));
-    rt.println(
-        "A firing has 4 segments, and a table of the functions that make them, at address 40.",
+// What the window refuses, and what lies below it.
+fn look_below(rt: &LibcRuntime, mut table: Table) -> Result<(), AnyError> {
+    let refused = table.put(SEGMENTS, Marked::Code(FULL_POWER)).is_err();
+    println!(
+        rt,
+        "A put behind the table, at place {SEGMENTS}, is refused: {refused}."
     )?;
-    rt.println(
-        "The table is kept in a safe store of 8 slots, behind a window that shows the table alone:",
-    )?;
-    keep_table(rt, &mut table)?;
-    rt.println(
-        "The panel now writes 9, the function for full power, over all 64 words of memory.",
-    )?;
-    for word in memory.iter_mut() {
-        *word = FULL_POWER;
-    }
-    compare(rt, &table, memory.as_slice())?;
-    if !table.takes(SEGMENTS) {
-        rt.println("The window takes nothing behind the table: place 4 is refused.")?;
-    }
     let below = table.into_below();
-    if below.get(TABLE + 1).is_some() {
-        rt.println("The window is taken apart: the store below holds 'hold' at address 41.")?;
-    }
+    let address = TABLE + 1;
+    let kept = function_of(below.get(address));
+    let name = segment_name(kept);
+    println!(
+        rt,
+        "The window is taken apart: the store below holds {kept} ('{name}') at address {address}."
+    )?;
     let slots = below.into_slots().len();
     println!(
         rt,
         "The firing is over, and the {slots} slots are given back."
     )?;
     Ok(())
+}
+
+fn fire(rt: &LibcRuntime) -> Result<(), AnyError> {
+    let heap = rt.alloc();
+    let mut memory = vec![in heap; 0u32; MEMORY]?;
+    let slots = vec![in heap; Slot::Empty; SLOTS]?;
+    let mut table = Window::new(TABLE, SEGMENTS, HashStore::new(slots));
+    println!(
+        rt,
+        "A firing has {SEGMENTS} segments, and a table of the functions that make them, at address {TABLE}."
+    )?;
+    println!(
+        rt,
+        "The table is kept in a safe store of {SLOTS} slots, behind a window that shows the table alone:"
+    )?;
+    keep_table(rt, &mut table)?;
+    println!(
+        rt,
+        "The panel now writes {FULL_POWER}, the function for full power, over all {MEMORY} words of memory."
+    )?;
+    for word in memory.iter_mut() {
+        *word = FULL_POWER;
+    }
+    compare(rt, &table, memory.as_slice())?;
+    look_below(rt, table)
 }
 
 fn main(rt: LibcRuntime) -> Result<(), AnyError> {
