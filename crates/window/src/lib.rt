@@ -75,11 +75,11 @@ impl<S: Store> Store for Window<S> {
 
     // Besides what every store promises: it is a put below.
     fn put(&mut self, a: u32, v: S::Entry) -> Result<(), NotTaken>
-        ensures answer { is_ok result ≡ window_taken taken self.old a }
+        ensures answer { is_ok result ≡ window_taken S.taken self.old a }
         ensures refused { is_ok result ≡ false → self.new ≡ self.old }
-        ensures made { is_ok result ≡ true → Put (window_entry entry self.old) (window_entry entry self.new) (window_taken taken self.old) (window_taken taken self.new) a v }
-        ensures kept { WindowKept kept entry self.old self.new }
-        ensures below { is_ok result ≡ true → Put (entry self.old.below) (entry self.new.below) (taken self.old.below) (taken self.new.below) (self.old.base + a) v }
+        ensures made { is_ok result ≡ true → Put (window_entry S.entry self.old) (window_entry S.entry self.new) (window_taken S.taken self.old) (window_taken S.taken self.new) a v }
+        ensures kept { WindowKept S.kept S.entry self.old self.new }
+        ensures below { is_ok result ≡ true → Put (S.entry self.old.below) (S.entry self.new.below) (S.taken self.old.below) (S.taken self.new.below) (self.old.base + a) v }
     {
         match self.place(a) {
             Some(at) => self.below.put(at, v),
@@ -89,9 +89,9 @@ impl<S: Store> Store for Window<S> {
 
     // Besides what every store promises: it is a drop below, or nothing at all.
     fn drop(&mut self, a: u32)
-        ensures dropped { Dropped (window_entry entry self.old) (window_entry entry self.new) (window_taken taken self.old) (window_taken taken self.new) a }
-        ensures kept { WindowKept kept entry self.old self.new }
-        ensures below { shows self.old a ≡ true → Dropped (entry self.old.below) (entry self.new.below) (taken self.old.below) (taken self.new.below) (self.old.base + a) }
+        ensures dropped { Dropped (window_entry S.entry self.old) (window_entry S.entry self.new) (window_taken S.taken self.old) (window_taken S.taken self.new) a }
+        ensures kept { WindowKept S.kept S.entry self.old self.new }
+        ensures below { shows self.old a ≡ true → Dropped (S.entry self.old.below) (S.entry self.new.below) (S.taken self.old.below) (S.taken self.new.below) (self.old.base + a) }
         ensures hidden { shows self.old a ≡ false → self.new ≡ self.old }
     {
         if let Some(at) = self.place(a) {

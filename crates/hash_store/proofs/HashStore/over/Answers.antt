@@ -5,8 +5,8 @@ use Rattle.hash_store.specs.Probing.{Reached, Single, count, lookup, room}
 use Rattle.hash_store.proofs.Fresh.{fresh_count, fresh_held, fresh_lookup, fresh_reached, fresh_room, fresh_single}
 use Rattle.hash_store.proofs.HashStore.over.Goals as goal
 
-pub invariant-of-result : goal.invariant-of-result
-invariant-of-result g c =
+pub invariant_of-result : goal.invariant_of-result
+invariant_of-result g c =
     let V = g.row.V.Denot in
     let n = length (vec_items c.args.slots) in
     let e = sym c.requires in (

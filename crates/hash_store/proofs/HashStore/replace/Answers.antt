@@ -8,13 +8,13 @@ use Rattle.hash_store.specs.declared.slot.Slot.TheVariants.{Held}
 use Rattle.hash_store.proofs.Tables.{over_count, over_held, over_put, over_reached, over_single}
 use Rattle.hash_store.proofs.HashStore.replace.Goals as goal
 
-pub index-mut-requires : goal.index-mut-requires
-index-mut-requires g c =
+pub index_mut-requires : goal.index_mut-requires
+index_mut-requires g c =
     let v = c.args.self.now.slots in
     omega (arith, c.requires.0, counted_length (vec_items v), v.ok.0)
 
-pub invariant-of-self : goal.invariant-of-self
-invariant-of-self g c =
+pub invariant_of-self : goal.invariant_of-self
+invariant_of-self g c =
     let s = c.args.self.now in
     let xs = counted (vec_items s.slots) in
     let a = c.args.a in

@@ -10,5 +10,5 @@ returns g c =
     let s = c.args.self.now in
     let a = c.args.a in
     let i = c.args.i in
-    let read = c.slot-of.ensures ∙ ap (λ l. slot_at l i) c.ring.ensures in
+    let read = c.slot_of.ensures ∙ ap (λ l. slot_at l i) c.ring.ensures in
     c.holding.ensures ∙ ap (λ x. holding x a) read ∙ sym (lookup_at (counted (vec_items s.slots)) a i s.single c.requires.1)

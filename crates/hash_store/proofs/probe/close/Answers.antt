@@ -15,7 +15,7 @@ loop-gap-smaller g c =
     let n = length c.args.slots.now in
     let xs = c.loop-gap.slots in
     let inv = c.loop-gap.invariant in
-    let at = read_held xs _ _ _ _ (omega (arith, c.along-j.ensures.1)) (sym c.slot-of-slot.ensures ∙ c.in-Held.is) c.along-j.ensures.0 in
+    let at = read_held xs _ _ _ _ (omega (arith, c.along-j.ensures.1)) (sym c.slot_of-slot.ensures ∙ c.in-Held.is) c.along-j.ensures.0 in
     let far : away (home_of c.in-Held.k n) (ring c.loop-gap.hole c.loop-gap.gap n) n ≡ c.distance.result = sym (simp (c.home.ensures.0, c.along-j.ensures.0) at c.distance.ensures) in
     let near = nearer n _ xs _ _ _ inv.0 inv.1 c.loop-gap-test.true _ _ at (omega (arith, far)) in
     let e : afar n 0 (set (set xs c.loop-gap.hole (Held c.in-Held.k c.in-Held.v)) c.along-j.result Empty) + c.loop-gap.gap ≡ afar n 0 (set xs c.loop-gap.hole Empty) = ap (λ j. afar n 0 (set (set xs c.loop-gap.hole (Held c.in-Held.k c.in-Held.v)) j Empty) + c.loop-gap.gap) c.along-j.ensures.0 ∙ near in
@@ -26,7 +26,7 @@ loop-gap-preserved g c =
     let n = length c.args.slots.now in
     let xs = c.loop-gap.slots in
     let inv = c.loop-gap.invariant in
-    let at = read_held xs _ _ _ _ (omega (arith, c.along-j.ensures.1)) (sym c.slot-of-slot.ensures ∙ c.in-Held.is) c.along-j.ensures.0 in
+    let at = read_held xs _ _ _ _ (omega (arith, c.along-j.ensures.1)) (sym c.slot_of-slot.ensures ∙ c.in-Held.is) c.along-j.ensures.0 in
     let far : away (home_of c.in-Held.k n) (ring c.loop-gap.hole c.loop-gap.gap n) n ≡ c.distance.result = sym (simp (c.home.ensures.0, c.along-j.ensures.0) at c.distance.ensures) in
     (length-set xs _ _ ∙ inv.0, subst (λ j. Shifting n c.args.slots.now (set xs c.loop-gap.hole (Held c.in-Held.k c.in-Held.v)) c.args.i j 1) (sym c.along-j.ensures.0) (moved n _ xs _ _ _ inv.0 inv.1 c.loop-gap-test.true _ _ at (omega (arith, far))))
 
@@ -35,7 +35,7 @@ loop-gap-preserved-then-distance-gap g c =
     let n = length c.args.slots.now in
     let xs = c.loop-gap.slots in
     let inv = c.loop-gap.invariant in
-    let at = read_held xs _ _ _ _ (omega (arith, c.along-j.ensures.1)) (sym c.slot-of-slot.ensures ∙ c.in-Held.is) c.along-j.ensures.0 in
+    let at = read_held xs _ _ _ _ (omega (arith, c.along-j.ensures.1)) (sym c.slot_of-slot.ensures ∙ c.in-Held.is) c.along-j.ensures.0 in
     let far : away (home_of c.in-Held.k n) (ring c.loop-gap.hole c.loop-gap.gap n) n ≡ c.distance.result = sym (simp (c.home.ensures.0, c.along-j.ensures.0) at c.distance.ensures) in
     (inv.0, next n _ xs _ _ _ inv.0 inv.1 c.loop-gap-test.true _ _ at (omega (arith, far, c.if-distance-gap.true)))
 
@@ -48,7 +48,7 @@ returns g c =
       closed = shut n _ xs _ _ _ inv.0 inv.1 (λ lt. elim c.loop-gap-test.branch [
         | else-loop-gap-test w ↦ absurd (omega (arith, w.loop-gap-test.false))
         | then-loop-gap-test+in-Empty w ↦
-            let e : slot_at xs w.along-j.result ≡ Empty = get_or_default xs _ Empty _ (omega (arith, w.along-j.ensures.1)) ∙ (sym w.slot-of-slot.ensures ∙ w.in-Empty.is) in
+            let e : slot_at xs w.along-j.result ≡ Empty = get_or_default xs _ Empty _ (omega (arith, w.along-j.ensures.1)) ∙ (sym w.slot_of-slot.ensures ∙ w.in-Empty.is) in
             ap is_empty (subst (λ m. slot_at xs m ≡ Empty) w.along-j.ensures.0 e)
       ]);
       long = length-set xs _ _ ∙ inv.0;

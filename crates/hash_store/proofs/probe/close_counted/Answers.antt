@@ -5,17 +5,17 @@ use Rattle.hash_store.specs.Probing.{Closed, Reached, Single}
 use Rattle.hash_store.specs.declared.slot.Slot.TheVariants.{Empty}
 use Rattle.hash_store.proofs.probe.close_counted.Goals as goal
 
-pub slice-bounds-close-end : goal.slice-bounds-close-end
-slice-bounds-close-end g c =
+pub slice_bounds-close-end : goal.slice_bounds-close-end
+slice_bounds-close-end g c =
     let xs = c.args.slots.now in
-    let le : length c.first-of-n.result.now ≤ length xs = omega (arith, ap length c.first-of-n.ensures, counted_length xs) in
+    let le : length c.first_of-n.result.now ≤ length xs = omega (arith, ap length c.first_of-n.ensures, counted_length xs) in
     search rules
 
 pub close-requires : goal.close-requires
 close-requires g c =
     let xs = c.args.slots.now in
-    let n = length c.first-of-n.result.now in
-    let e : counted xs ≡ take (n - 0) xs = sym (counted_part xs n (ap length c.first-of-n.ensures ∙ omega (arith, counted_length xs))) in
+    let n = length c.first_of-n.result.now in
+    let e : counted xs ≡ take (n - 0) xs = sym (counted_part xs n (ap length c.first_of-n.ensures ∙ omega (arith, counted_length xs))) in
     record {
       inside = subst (λ l. c.args.i < length l) e c.requires.inside;
       small = subst (λ l. length l ≤ 65536) e (omega (arith, counted_length xs));
@@ -26,10 +26,10 @@ close-requires g c =
 pub returns : goal.returns
 returns g c =
     let xs = c.args.slots.now in
-    let n = length c.first-of-n.result.now in
+    let n = length c.first_of-n.result.now in
     let ws = c.close.new.slots in
     let i = c.args.i in
-    let is : n ≡ length (counted xs) = ap length c.first-of-n.ensures in
+    let is : n ≡ length (counted xs) = ap length c.first_of-n.ensures in
     let e : take (n - 0) xs ≡ counted xs = counted_part xs n (is ∙ omega (arith, counted_length xs)) in
     let done = c.close.ensures in
     let long : length ws ≡ length (counted xs) = done.long ∙ ap length e in

@@ -12,15 +12,15 @@ returns-then-n-eq0 g c =
     let xs = c.args.slots.now in
     (λ i. rw (get_or_past xs i Empty (omega arith)) refl, count_all xs (λ i lt. absurd (omega arith)))
 
-pub returns-then-is-empty : goal.returns-then-is-empty
-returns-then-is-empty g c =
+pub returns-then-is_empty : goal.returns-then-is_empty
+returns-then-is_empty g c =
     let xs = c.args.slots.now in
     let n = length xs in
     let a = c.args.a in
     let d = c.loop-d.d in
     let h = c.home-h.ensures in
     let at = c.along-i.ensures in
-    let e : is_empty (slot_at xs c.along-i.result) ≡ true = ap is_empty (sym c.slot-of-slot.ensures) ∙ sym c.if-is-empty.ensures in (
+    let e : is_empty (slot_at xs c.along-i.result) ≡ true = ap is_empty (sym c.slot_of-slot.ensures) ∙ sym c.if-is_empty.ensures in (
       absent_at xs a c.home-h.result h.1 c.requires.reached h.0 d c.loop-d-test.true (λ s lt. (c.loop-d.invariant s lt).0) (subst (λ k. is_empty (slot_at xs k) ≡ true) at.0 e),
       record {
         inside = at.1;
@@ -44,7 +44,7 @@ pub loop-d-preserved : goal.loop-d-preserved
 loop-d-preserved g c =
     let xs = c.args.slots.now in
     let a = c.args.a in
-    let read = c.slot-of-slot.ensures in
-    let full : is_empty (slot_at xs c.along-i.result) ≡ false = ap is_empty (sym read) ∙ sym c.if-is-empty.ensures in
+    let read = c.slot_of-slot.ensures in
+    let full : is_empty (slot_at xs c.along-i.result) ≡ false = ap is_empty (sym read) ∙ sym c.if-is_empty.ensures in
     let other : has (slot_at xs c.along-i.result) a ≡ false = ap (λ x. has x a) (sym read) ∙ sym c.if-has.ensures in
     below_more _ _ c.loop-d.invariant (subst (λ k. (has (slot_at xs k) a ≡ false) × (is_empty (slot_at xs k) ≡ false)) c.along-i.ensures.0 (other, full))

@@ -5,7 +5,7 @@ use Rattle.hex_bytes.proofs.hex.nibble.Goals as goal
 
 pub returns-then-digit-lt97 : goal.returns-then-digit-lt97
 unfolding nibble_of
-returns-then-digit-lt97 c = record { value = rw (lt-ltb c.args.digit 97 c.if-digit-lt97.true, c.saturating-sub.ensures) refl; small = omega arith }
+returns-then-digit-lt97 c = record { value = rw (lt-ltb c.args.digit 97 c.if-digit-lt97.true, c.saturating_sub.ensures) refl; small = omega arith }
 
 pub returns-else-digit-lt97 : goal.returns-else-digit-lt97
 unfolding nibble_of

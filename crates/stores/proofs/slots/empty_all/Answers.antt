@@ -8,7 +8,7 @@ returns g c =
     let e = c.args.empty in
     let n = length (vec_items v) in
     let ws = c.overwrite.new.slots in
-    let all : ws ≡ replicate n e = c.overwrite.ensures ∙ ap (λ l. replicate (length l) e) c.as-mut-slice.ensures.value in
+    let all : ws ≡ replicate n e = c.overwrite.ensures ∙ ap (λ l. replicate (length l) e) c.as_mut_slice.ensures.value in
     let long = ap length all ∙ length-replicate n e in
     let items = with_items_is v ws (long ∙ sym v.ok.0) in
     record { items = items ∙ all; len = ap length items ∙ long }
