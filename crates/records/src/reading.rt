@@ -6,7 +6,7 @@ use crate::word::{after, front_words};
 
 // Reads as many records as `out` has places from the front of `bytes`.
 pub fn fill<R: Record>(out: &mut [R], bytes: &[u8], list: u32) -> Result<(), RecordFault>
-    ensures { Filled meant width list bytes.now out.old out.new result }
+    ensures { Filled R.meant R.width list bytes.now out.old out.new result }
 {
     let step = 4 * R::words();
     let mut rest = bytes;

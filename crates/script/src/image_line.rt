@@ -65,7 +65,7 @@ fn sensitive<'a>(words: &mut Words<'a>) -> Result<ImageLine<'a>, Fault>
 
 // A line's own fault among those of a line about modules.
 fn in_line(answer: Result<ImageLine, Fault>) -> Result<ImageLine, ImageFault>
-    ensures { mended asked result ≡ wrapped (heard asked answer) }
+    ensures { mended asked result ≡ wrapped (heard asked answer.entry) }
 {
     match answer {
         Ok(line) => Ok(line),

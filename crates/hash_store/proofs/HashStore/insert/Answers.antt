@@ -24,13 +24,12 @@ invariant_of-self g c =
     let none = c.requires.0 in
     let f = c.requires.1 in
     let within : f.d < length xs = f.within in
-    let w = sym (counted_set (vec_items s.slots) i (Held a v)) in (
-      subst (λ l. held_count (lookup l) ≡ count l) w (omega (arith, s.counts, new_held xs i a v f.inside none f.empty s.single (omega arith), new_count xs i a v f.inside none f.empty)),
-      (
-        subst Single w (single_new xs i a v f.inside none f.empty s.single),
-        (subst (λ l. Reached (length l) l) w (rw (length-set xs i _) (reached_new xs i a v f.inside (length xs) f.d (home_inside a (length xs) (omega (arith, within))) within f.at f.before s.reached)), tt),
-      ),
-    )
+    let w = sym (counted_set (vec_items s.slots) i (Held a v)) in
+    record {
+      counts = subst (λ l. held_count (lookup l) ≡ count l) w (omega (arith, s.counts, new_held xs i a v f.inside none f.empty s.single (omega arith), new_count xs i a v f.inside none f.empty));
+      single = subst Single w (single_new xs i a v f.inside none f.empty s.single);
+      reached = subst (λ l. Reached (length l) l) w (rw (length-set xs i _) (reached_new xs i a v f.inside (length xs) f.d (home_inside a (length xs) (omega (arith, within))) within f.at f.before s.reached));
+    }
 
 pub returns : goal.returns
 returns g c =

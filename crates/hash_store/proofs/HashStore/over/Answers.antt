@@ -9,13 +9,12 @@ pub invariant_of-result : goal.invariant_of-result
 invariant_of-result g c =
     let V = g.row.V.Denot in
     let n = length (vec_items c.args.slots) in
-    let e = sym c.requires in (
-      subst (λ l. held_count (lookup (counted l)) ≡ count (counted l)) e (fresh_held V n ∙ sym (fresh_count V n)),
-      (
-        subst (λ l. Single (counted l)) e (fresh_single V n),
-        (subst (λ l. Reached (length (counted l)) (counted l)) e (fresh_reached V n), tt),
-      ),
-    )
+    let e = sym c.requires in
+    record {
+      counts = subst (λ l. held_count (lookup (counted l)) ≡ count (counted l)) e (fresh_held V n ∙ sym (fresh_count V n));
+      single = subst (λ l. Single (counted l)) e (fresh_single V n);
+      reached = subst (λ l. Reached (length (counted l)) (counted l)) e (fresh_reached V n);
+    }
 
 pub returns : goal.returns
 returns g c =

@@ -35,13 +35,12 @@ invariant_of-self g c =
     let kept = subst (λ l. SlotsKept l ws) lent c.close_counted.ensures.kept in
     let closed = subst (λ l. Closed (counted l) (counted ws) i) lent c.close_counted.ensures.closed in
     let long = counted_long xs ws kept in
-    let e = sym (with_items_is v ws (kept.long ∙ sym v.ok.0)) in (
-      subst (λ l. held_count (lookup (counted l)) ≡ count (counted l)) e (omega (arith, s.counts, closed.counts, drop_count (counted xs) i a f.0 f.1, closed_held (counted xs) (counted ws) i a f.0 f.1 long s.single (omega arith) closed)),
-      (
-        subst (λ l. Single (counted l)) e closed.single,
-        (subst (λ l. Reached (length (counted l)) (counted l)) e closed.reached, tt),
-      ),
-    )
+    let e = sym (with_items_is v ws (kept.long ∙ sym v.ok.0)) in
+    record {
+      counts = subst (λ l. held_count (lookup (counted l)) ≡ count (counted l)) e (omega (arith, s.counts, closed.counts, drop_count (counted xs) i a f.0 f.1, closed_held (counted xs) (counted ws) i a f.0 f.1 long s.single (omega arith) closed));
+      single = subst (λ l. Single (counted l)) e closed.single;
+      reached = subst (λ l. Reached (length (counted l)) (counted l)) e closed.reached;
+    }
 
 pub returns : goal.returns
 returns g c =

@@ -21,13 +21,12 @@ invariant_of-self g c =
     let v = c.args.v in
     let i = c.args.i in
     let f = c.requires in
-    let w = sym (counted_set (vec_items s.slots) i (Held a v)) in (
-      subst (λ l. held_count (lookup l) ≡ count l) w (over_held xs i a v f.0 f.1 s.single (omega arith) ∙ s.counts ∙ sym (over_count xs i a v f.0 f.1)),
-      (
-        subst Single w (over_single xs i a v f.0 f.1 s.single),
-        (subst (λ l. Reached (length l) l) w (over_reached xs i a v f.0 f.1 s.reached), tt),
-      ),
-    )
+    let w = sym (counted_set (vec_items s.slots) i (Held a v)) in
+    record {
+      counts = subst (λ l. held_count (lookup l) ≡ count l) w (over_held xs i a v f.0 f.1 s.single (omega arith) ∙ s.counts ∙ sym (over_count xs i a v f.0 f.1));
+      single = subst Single w (over_single xs i a v f.0 f.1 s.single);
+      reached = subst (λ l. Reached (length l) l) w (over_reached xs i a v f.0 f.1 s.reached);
+    }
 
 pub returns : goal.returns
 returns g c =

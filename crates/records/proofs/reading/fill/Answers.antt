@@ -12,7 +12,7 @@ pub returns-in-None : goal.returns-in-None
 returns-in-None g c =
     let r = g.R.Record in
     let inv = c.loop-i.invariant in
-    let at : c.front-words.result ≡ front_words (passed r.width c.loop-i.i c.args.bytes.now) = c.front-words.ensures ∙ ap front_words inv.0 in
+    let at : c.front_words.result ≡ front_words (passed r.width c.loop-i.i c.args.bytes.now) = c.front_words.ensures ∙ ap front_words inv.0 in
     record {
       list_is = refl;
       first = records_stop r.meant r.width c.loop-i.i _ _ _ inv.1 (ap r.meant (sym at) ∙ sym c.in-None.ensures) c.loop-i-test.true;
@@ -24,7 +24,7 @@ loop-i-preserved g c =
     let r = g.R.Record in
     let inv = c.loop-i.invariant in
     let i = c.loop-i.i in
-    let at : c.front-words.result ≡ front_words (passed r.width i c.args.bytes.now) = c.front-words.ensures ∙ ap front_words inv.0 in (
+    let at : c.front_words.result ≡ front_words (passed r.width i c.args.bytes.now) = c.front_words.ensures ∙ ap front_words inv.0 in (
       c.after-rest.ensures ∙ ap (λ w. drop (4 * w) c.loop-i.rest.now) c.words-step.ensures ∙ ap (drop (4 * r.width)) inv.0 ∙ sym (passed_more r.width i c.args.bytes.now),
       records_more r.meant r.width i _ _ _ inv.1 (ap r.meant (sym at) ∙ sym c.in-Some.ensures) ∙ ap Ok (sym (take_more_set c.loop-i.out i c.in-Some.record (omega arith))),
       drop-set-lt (i + 1) c.loop-i.out i _ (omega arith) ∙ sym (drop-drop 1 i _) ∙ ap (drop 1) inv.2 ∙ drop-drop 1 i _,
