@@ -34,7 +34,7 @@ fn read_list<R: Record>(
     list: u32,
 ) -> Result<(), RecordFault>
     requires { count ≤ length places.old }
-    ensures { ListRead meant width count list (drop at image.now) places.new result }
+    ensures { ListRead R.meant R.width count list (drop at image.now) places.new result }
 {
     fill(&mut places[0..count], after(image, at), list)
 }

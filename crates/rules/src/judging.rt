@@ -21,7 +21,7 @@ fn judge_list<R: Ruled>(
     records: &[R],
     list: u32,
 ) -> Result<(), RecordFault>
-    ensures { Judged (first_in (keeps rule (viewed lists.now)) records.now) list result }
+    ensures { Judged (first_in (R.keeps rule (viewed lists.now)) records.now) list result }
 {
     for k in 0..records.len() {
         if !records[k].passes(rule, lists) {

@@ -24,9 +24,9 @@ pub(crate) fn put_words(out: &mut [u8], at: usize, words: &[u32])
 
 // Puts the records one after another and answers the place behind them.
 pub(crate) fn put_list<R: Record>(out: &mut [u8], start: usize, records: &[R]) -> usize
-    requires { start + 4 * (width * length records.now) ≤ length out.old }
-    ensures put { out.new ≡ placed out.old start (spell (flat_map spelt records.now)) }
-    ensures end { result ≡ start + 4 * (width * length records.now) }
+    requires { start + 4 * (R.width * length records.now) ≤ length out.old }
+    ensures put { out.new ≡ placed out.old start (spell (flat_map R.spelt records.now)) }
+    ensures end { result ≡ start + 4 * (R.width * length records.now) }
 {
     let n = R::words();
     let mut at = start;

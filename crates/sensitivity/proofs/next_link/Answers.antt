@@ -8,8 +8,8 @@ use Rattle.sensitivity.proofs.next_link.Goals as goal
 
 pub returns-then-t-lists : goal.returns-then-t-lists
 returns-then-t-lists c =
-    subst (λ (v : Content). MatchOption c.marked-link.result (NoMark v.fields c.args.sensitive.now (slice_get v.types c.args.t)) (ToMark v.fields c.args.sensitive.now (slice_get v.types c.args.t))) c.lists-lists.ensures
-    (rw (slice_get-get_or _ _ kind.Number c.if-t-lists.true) c.marked-link.ensures)
+    subst (λ (v : Content). MatchOption c.marked_link.result (NoMark v.fields c.args.sensitive.now (slice_get v.types c.args.t)) (ToMark v.fields c.args.sensitive.now (slice_get v.types c.args.t))) c.lists-lists.ensures
+    (rw (slice_get-get_or _ _ kind.Number c.if-t-lists.true) c.marked_link.ensures)
 
 pub returns-else-t-lists : goal.returns-else-t-lists
 returns-else-t-lists c =

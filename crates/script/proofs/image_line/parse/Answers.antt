@@ -5,14 +5,14 @@ use Rattle.script.proofs.image_line.parse.Goals as goal
 pub returns-then-is : goal.returns-then-is
 unfolding verb_words
 returns-then-is c =
-    let w = c.in-ok-verb.ensures in
+    let w = c.in_ok-verb.ensures in
     let k = c.if-is.ensures in
     rw (← c.of-words.ensures, w, ← k) (ap Some c.image.ensures)
 
 pub returns-then-is-2 : goal.returns-then-is-2
 unfolding verb_words
 returns-then-is-2 c =
-    let w = c.in-ok-verb.ensures in
+    let w = c.in_ok-verb.ensures in
     let k = c.if-is.ensures in
     let l = c.if-is-2.ensures in
     rw (← c.of-words.ensures, w, ← k, ← l) (ap Some c.write.ensures)
@@ -20,7 +20,7 @@ returns-then-is-2 c =
 pub returns-then-is-3 : goal.returns-then-is-3
 unfolding verb_words
 returns-then-is-3 c =
-    let w = c.in-ok-verb.ensures in
+    let w = c.in_ok-verb.ensures in
     let k = c.if-is.ensures in
     let l = c.if-is-2.ensures in
     let m = c.if-is-3.ensures in
@@ -29,7 +29,7 @@ returns-then-is-3 c =
 pub returns-else-is-3 : goal.returns-else-is-3
 unfolding verb_words
 returns-else-is-3 c =
-    let w = c.in-ok-verb.ensures in
+    let w = c.in_ok-verb.ensures in
     let k = c.if-is.ensures in
     let l = c.if-is-2.ensures in
     let m = c.if-is-3.ensures in

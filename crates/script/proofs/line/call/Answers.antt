@@ -9,46 +9,46 @@ returns-then-is c =
     let k = c.if-is.ensures in
     rw (← k) c.put.ensures
 
-pub returns-in-err-address : goal.returns-in-err-address
+pub returns-in_err-address : goal.returns-in_err-address
 unfolding call_words
-returns-in-err-address c =
-    let p = err_from_is_err_and c.from-residual.result c.from-residual.ensures.1 in
+returns-in_err-address c =
+    let p = err_from_is_err_and c.from_residual.result c.from_residual.ensures.1 in
     let k = c.if-is.ensures in
     let l = c.if-is-2.ensures in
-    let e = c.in-err-address.ensures in
+    let e = c.in_err-address.ensures in
     rw (p.1, p.2, ← k, ← l, ← e) refl
 
-pub returns-in-ok-address : goal.returns-in-ok-address
+pub returns-in_ok-address : goal.returns-in_ok-address
 unfolding call_words
-returns-in-ok-address c =
+returns-in_ok-address c =
     let k = c.if-is.ensures in
     let l = c.if-is-2.ensures in
-    let e = c.in-ok-address.ensures in
+    let e = c.in_ok-address.ensures in
     rw (← k, ← l, ← e) refl
 
-pub returns-in-err-address-2 : goal.returns-in-err-address-2
+pub returns-in_err-address-2 : goal.returns-in_err-address-2
 unfolding call_words
-returns-in-err-address-2 c =
-    let p = err_from_is_err_and c.from-residual-in-err-address-2.result c.from-residual-in-err-address-2.ensures.1 in
+returns-in_err-address-2 c =
+    let p = err_from_is_err_and c.from_residual-in-err-address-2.result c.from_residual-in-err-address-2.ensures.1 in
     let k = c.if-is.ensures in
     let l = c.if-is-2.ensures in
     let m = c.if-is-3.ensures in
     let e = c.in-err-address-2.ensures in
     rw (p.1, p.2, ← k, ← l, ← m, ← e) refl
 
-pub returns-in-ok-address-2 : goal.returns-in-ok-address-2
+pub returns-in_ok-address-2 : goal.returns-in_ok-address-2
 unfolding call_words
-returns-in-ok-address-2 c =
+returns-in_ok-address-2 c =
     let k = c.if-is.ensures in
     let l = c.if-is-2.ensures in
     let m = c.if-is-3.ensures in
-    let e = c.in-ok-address-2.ensures in
+    let e = c.in_ok-address-2.ensures in
     rw (← k, ← l, ← m, ← e) refl
 
-pub returns-in-err-address-3 : goal.returns-in-err-address-3
+pub returns-in_err-address-3 : goal.returns-in_err-address-3
 unfolding call_words
-returns-in-err-address-3 c =
-    let p = err_from_is_err_and c.from-residual-in-err-address-3.result c.from-residual-in-err-address-3.ensures.1 in
+returns-in_err-address-3 c =
+    let p = err_from_is_err_and c.from_residual-in-err-address-3.result c.from_residual-in-err-address-3.ensures.1 in
     let k = c.if-is.ensures in
     let l = c.if-is-2.ensures in
     let m = c.if-is-3.ensures in
@@ -56,14 +56,14 @@ returns-in-err-address-3 c =
     let e = c.in-err-address-3.ensures in
     rw (p.1, p.2, ← k, ← l, ← m, ← n, ← e) refl
 
-pub returns-in-ok-address-3 : goal.returns-in-ok-address-3
+pub returns-in_ok-address-3 : goal.returns-in_ok-address-3
 unfolding call_words
-returns-in-ok-address-3 c =
+returns-in_ok-address-3 c =
     let k = c.if-is.ensures in
     let l = c.if-is-2.ensures in
     let m = c.if-is-3.ensures in
     let n = c.if-is-4.ensures in
-    let e = c.in-ok-address-3.ensures in
+    let e = c.in_ok-address-3.ensures in
     rw (← k, ← l, ← m, ← n, ← e) refl
 
 pub returns-else-is-4 : goal.returns-else-is-4

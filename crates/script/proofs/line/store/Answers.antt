@@ -3,56 +3,56 @@ use Rattle.std.proofs.lemmas.Result.{err_from_is_err_and}
 use Rattle.script.specs.Lines.{store_words}
 use Rattle.script.proofs.line.store.Goals as goal
 
-pub returns-in-err-first : goal.returns-in-err-first
+pub returns-in_err-first : goal.returns-in_err-first
 unfolding store_words
-returns-in-err-first c =
-    let p = err_from_is_err_and c.from-residual.result c.from-residual.ensures.1 in
-    let e = c.in-err-first.ensures in
+returns-in_err-first c =
+    let p = err_from_is_err_and c.from_residual.result c.from_residual.ensures.1 in
+    let e = c.in_err-first.ensures in
     rw (p.1, p.2, ← e) refl
 
-pub returns-in-err-base : goal.returns-in-err-base
+pub returns-in_err-base : goal.returns-in_err-base
 unfolding store_words
-returns-in-err-base c =
-    let p = err_from_is_err_and c.from-residual-in-err-base.result c.from-residual-in-err-base.ensures.1 in
-    let e = c.in-ok-first.ensures in
+returns-in_err-base c =
+    let p = err_from_is_err_and c.from_residual-in_err-base.result c.from_residual-in_err-base.ensures.1 in
+    let e = c.in_ok-first.ensures in
     let k = c.if-is.ensures in
-    let f = c.in-err-base.ensures in
+    let f = c.in_err-base.ensures in
     rw (p.1, p.2, ← e, ← k, ← f) refl
 
-pub returns-in-err-len : goal.returns-in-err-len
+pub returns-in_err-len : goal.returns-in_err-len
 unfolding store_words
-returns-in-err-len c =
-    let p = err_from_is_err_and c.from-residual-in-err-len.result c.from-residual-in-err-len.ensures.1 in
-    let e = c.in-ok-first.ensures in
+returns-in_err-len c =
+    let p = err_from_is_err_and c.from_residual-in_err-len.result c.from_residual-in_err-len.ensures.1 in
+    let e = c.in_ok-first.ensures in
     let k = c.if-is.ensures in
-    let f = c.in-ok-base.ensures in
-    let h = c.in-err-len.ensures in
+    let f = c.in_ok-base.ensures in
+    let h = c.in_err-len.ensures in
     rw (p.1, p.2, ← e, ← k, ← f, ← h) refl
 
-pub returns-in-err-make : goal.returns-in-err-make
+pub returns-in_err-make : goal.returns-in_err-make
 unfolding store_words
-returns-in-err-make c =
-    let p = err_from_is_err_and c.from-residual-in-err-make.result c.from-residual-in-err-make.ensures.1 in
-    let e = c.in-ok-first.ensures in
+returns-in_err-make c =
+    let p = err_from_is_err_and c.from_residual-in_err-make.result c.from_residual-in_err-make.ensures.1 in
+    let e = c.in_ok-first.ensures in
     let k = c.if-is.ensures in
-    let f = c.in-ok-base.ensures in
-    let h = c.in-ok-len.ensures in
-    let i = c.in-err-make.ensures in
+    let f = c.in_ok-base.ensures in
+    let h = c.in_ok-len.ensures in
+    let i = c.in_err-make.ensures in
     rw (p.1, p.2, ← e, ← k, ← f, ← h, ← i) refl
 
-pub returns-in-ok-make : goal.returns-in-ok-make
+pub returns-in_ok-make : goal.returns-in_ok-make
 unfolding store_words
-returns-in-ok-make c =
-    let e = c.in-ok-first.ensures in
+returns-in_ok-make c =
+    let e = c.in_ok-first.ensures in
     let k = c.if-is.ensures in
-    let f = c.in-ok-base.ensures in
-    let h = c.in-ok-len.ensures in
-    let i = c.in-ok-make.ensures in
+    let f = c.in_ok-base.ensures in
+    let h = c.in_ok-len.ensures in
+    let i = c.in_ok-make.ensures in
     rw (← e, ← k, ← f, ← h, ← i) c.shape.ensures
 
 pub returns-else-is : goal.returns-else-is
 unfolding store_words
 returns-else-is c =
-    let e = c.in-ok-first.ensures in
+    let e = c.in_ok-first.ensures in
     let k = c.if-is.ensures in
     rw (← e, ← k) c.shape-else-is.ensures

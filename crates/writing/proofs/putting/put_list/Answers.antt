@@ -9,23 +9,23 @@ use Rattle.writing.proofs.putting.put_list.Goals as goal
 pub loop-i-init : goal.loop-i-init
 loop-i-init g c = (place_first g.R.Record.width c.args.start, sym (placed_none c.args.out.now c.args.start))
 
-pub put-words-requires : goal.put-words-requires
-put-words-requires g c =
+pub put_words-requires : goal.put_words-requires
+put_words-requires g c =
     let w = g.R.Record.width in
-    let e = same_words _ _ _ _ c.words-n.ensures c.write_words.ensures in
-    let l : length (take (c.words-n.result - 0) c.write_words.result) ≡ g.R.Record.width = ap length e ∙ g.met.R.Record.long c.index-records-i.result in
+    let e = same_words _ _ _ _ c.words-n.ensures c.write-words.ensures in
+    let l : length (take (c.words-n.result - 0) c.write-words.result) ≡ g.R.Record.width = ap length e ∙ g.met.R.Record.long c.index-records-i.result in
     let f = place_fits w c.loop-i.i (length c.args.records.now) c.args.start (length c.args.out.now) c.loop-i.at c.loop-i.invariant.0 c.loop-i-test.true c.requires in
     omega (arith, l, f, c.loop-i.auto.out)
 
-pub overflow-add-at : goal.overflow-add-at
-overflow-add-at g c =
+pub overflow_add-at : goal.overflow_add-at
+overflow_add-at g c =
     let f = place_fits g.R.Record.width c.loop-i.i (length c.args.records.now) c.args.start (length c.args.out.now) c.loop-i.at c.loop-i.invariant.0 c.loop-i-test.true c.requires in
     omega (arith, f, c.words-n.ensures)
 
 pub loop-i-preserved : goal.loop-i-preserved
 loop-i-preserved g c =
     let r = g.R.Record in
-    let e = same_words _ _ _ _ c.words-n.ensures c.write_words.ensures in (
+    let e = same_words _ _ _ _ c.words-n.ensures c.write-words.ensures in (
       rw c.words-n.ensures (place_next r.width c.loop-i.i c.args.start c.loop-i.at c.loop-i.invariant.0),
       c.put_words.ensures ∙ record_more r.spelt r.width g.met.R.Record.long c.args.records.now c.loop-i.i c.args.start c.loop-i.at c.index-records-i.result c.args.out.now c.loop-i.out _ c.requires c.loop-i-test.true c.index-records-i.is e c.loop-i.invariant.0 c.loop-i.invariant.1,
     )

@@ -18,7 +18,7 @@ returns c =
     let start = c.blanks-start.result in
     let end = c.upto-end.result in
     let text : take (length xs - start) (drop start xs) ≡ after_blanks xs = take_rest xs start ∙ c.blanks-start.ensures.behind in
-    let front : c.split-at.result.0.now ≡ first_word (after_blanks xs) = c.split-at.ensures.front ∙ c.upto-end.ensures.front ∙ ap first_word text in
-    let back : c.split-at.result.1.now ≡ after_word (after_blanks xs) = c.split-at.ensures.back ∙ c.upto-end.ensures.behind ∙ ap after_word text in
-    let some : first_word (after_blanks xs) ≡ [] → ⊥ = λ none. c.if-end-eq0.false (sym c.split-at.ensures.front-len ∙ ap length (front ∙ none)) in
-    one_word xs some ∙ ap (λ w. w ∷ words (after_word (after_blanks xs))) (sym front) ∙ ap (λ r. c.split-at.result.0.now ∷ words r) (sym back)
+    let front : c.split_at.result.0.now ≡ first_word (after_blanks xs) = c.split_at.ensures.front ∙ c.upto-end.ensures.front ∙ ap first_word text in
+    let back : c.split_at.result.1.now ≡ after_word (after_blanks xs) = c.split_at.ensures.back ∙ c.upto-end.ensures.behind ∙ ap after_word text in
+    let some : first_word (after_blanks xs) ≡ [] → ⊥ = λ none. c.if-end-eq0.false (sym c.split_at.ensures.front_len ∙ ap length (front ∙ none)) in
+    one_word xs some ∙ ap (λ w. w ∷ words (after_word (after_blanks xs))) (sym front) ∙ ap (λ r. c.split_at.result.0.now ∷ words r) (sym back)
