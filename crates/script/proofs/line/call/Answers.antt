@@ -29,11 +29,11 @@ returns-in_ok-address c =
 pub returns-in_err-address-2 : goal.returns-in_err-address-2
 unfolding call_words
 returns-in_err-address-2 c =
-    let p = err_from_is_err_and c.from_residual-in-err-address-2.result c.from_residual-in-err-address-2.ensures.1 in
+    let p = err_from_is_err_and c.from_residual-in_err-address-2.result c.from_residual-in_err-address-2.ensures.1 in
     let k = c.if-is.ensures in
     let l = c.if-is-2.ensures in
     let m = c.if-is-3.ensures in
-    let e = c.in-err-address-2.ensures in
+    let e = c.in_err-address-2.ensures in
     rw (p.1, p.2, ← k, ← l, ← m, ← e) refl
 
 pub returns-in_ok-address-2 : goal.returns-in_ok-address-2
@@ -48,12 +48,12 @@ returns-in_ok-address-2 c =
 pub returns-in_err-address-3 : goal.returns-in_err-address-3
 unfolding call_words
 returns-in_err-address-3 c =
-    let p = err_from_is_err_and c.from_residual-in-err-address-3.result c.from_residual-in-err-address-3.ensures.1 in
+    let p = err_from_is_err_and c.from_residual-in_err-address-3.result c.from_residual-in_err-address-3.ensures.1 in
     let k = c.if-is.ensures in
     let l = c.if-is-2.ensures in
     let m = c.if-is-3.ensures in
     let n = c.if-is-4.ensures in
-    let e = c.in-err-address-3.ensures in
+    let e = c.in_err-address-3.ensures in
     rw (p.1, p.2, ← k, ← l, ← m, ← n, ← e) refl
 
 pub returns-in_ok-address-3 : goal.returns-in_ok-address-3

@@ -13,7 +13,7 @@ loop-k-preserved c =
       length-set c.loop-k.table k _ ∙ c.loop-k.invariant.0,
       below_more _ _
           (λ j l f e. nth_set_below c.loop-k.table k j _ l ∙ c.loop-k.invariant.1 j l f e)
-          (λ f e. nth_set_same c.loop-k.table k _ (omega (arith, c.loop-k.invariant.0)) ∙ ap Some (c.layout-of.ensures ∙ ap lay (get_d_nth _ k f _ e))),
+          (λ f e. nth_set_same c.loop-k.table k _ (omega (arith, c.loop-k.invariant.0)) ∙ ap Some (c.layout_of.ensures ∙ ap lay (get_d_nth _ k f _ e))),
     )
 
 pub returns : goal.returns

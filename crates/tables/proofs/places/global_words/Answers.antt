@@ -7,6 +7,6 @@ returns c =
     let s : c.size-size.result ≤ 4294967295 = omega arith in
     let n : c.args.global.count ≤ 4294967295 = omega arith in
     record {
-      value = ap (λ w. w * c.args.global.count) (c.size-size.ensures ∙ ap size c.item-at.ensures);
+      value = ap (λ w. w * c.args.global.count) (c.size-size.ensures ∙ ap size c.item_at.ensures);
       few = mul-le-mul s n;
     }
