@@ -6,8 +6,8 @@ use Rattle.stores.proofs.Counted.{counted_length, counted_set, kept_set}
 use Rattle.array_store.specs.Array.{array_held, row, row_entry, row_taken}
 use Rattle.array_store.proofs.ArrayStore.write.Goals as goal
 
-pub index-mut-requires : goal.index-mut-requires
-index-mut-requires g c =
+pub index_mut-requires : goal.index_mut-requires
+index_mut-requires g c =
     let v = c.args.self.now.slots in
     omega (arith, ltb-true _ _ (sym c.if-takes.ensures), counted_length (vec_items v), v.ok.0)
 
