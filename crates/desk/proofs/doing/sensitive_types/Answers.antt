@@ -7,13 +7,13 @@ use Rattle.parts.specs.Content.{Content}
 use Rattle.desk.specs.Telling.{numbered}
 use Rattle.desk.proofs.Counting.{none_more, one_more}
 use Rattle.desk.proofs.doing.sensitive_types.Goals as goal
-use Rattle.desk.proofs.doing.sensitive_types.Goals.{else-is-sensitive, then-is-sensitive+in-ok-number+in-ok-push-str}
+use Rattle.desk.proofs.doing.sensitive_types.Goals.{Else-is_sensitive, then-is_sensitive+in_ok-number+in_ok-push_str}
 
 few_types : (m : Module) → length (said m).types ≤ 64
 few_types m = let few : m.parts.header.counts.types ≤ 64 = m.parts.header.few_types in omega (arith, length-take m.parts.header.counts.types m.parts.types)
 
-pub overflow-cast-types : goal.overflow-cast-types
-overflow-cast-types c = omega (arith, ap (λ (k : Content). length k.types) c.lists.ensures, few_types c.args.held.now)
+pub overflow_cast-types : goal.overflow_cast-types
+overflow_cast-types c = omega (arith, ap (λ (k : Content). length k.types) c.lists.ensures, few_types c.args.held.now)
 
 pub loop-t-preserved : goal.loop-t-preserved
 loop-t-preserved c =
@@ -21,11 +21,11 @@ loop-t-preserved c =
     let t = c.loop-t.t-counter in
     let same : get_or m.sensitive t false ≡ c.is-sensitive.result = same_from_decides _ _ (m.right t) c.is-sensitive.ensures in
     elim c.if-is-sensitive.branch [
-      | then-is-sensitive+in-ok-number+in-ok-push-str w ↦
+      | then-is_sensitive+in_ok-number+in_ok-push_str w ↦
           let pushed = w.in-ok-push-str.ensures.bytes in
           let number = w.as-str.ensures.value ∙ w.in-ok-number.ensures.ok in
           ap string_bytes w.text_is ∙ pushed ∙ ap (λ l. string_bytes c.loop-t.text ++ l) number ∙ one_more m.sensitive t _ c.loop-t.invariant (same ∙ w.if-is-sensitive.true)
-      | else-is-sensitive w ↦ ap string_bytes w.text_is ∙ none_more m.sensitive t _ c.loop-t.invariant (same ∙ w.if-is-sensitive.false)
+      | Else-is_sensitive w ↦ ap string_bytes w.text_is ∙ none_more m.sensitive t _ c.loop-t.invariant (same ∙ w.if-is-sensitive.false)
     ]
 
 pub returns : goal.returns

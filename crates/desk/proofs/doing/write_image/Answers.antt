@@ -7,9 +7,9 @@ use Rattle.desk.proofs.doing.write_image.Goals as goal
 
 pub returns : goal.returns
 returns c =
-    let v = c.in-ok-bytes.bytes in
+    let v = c.in_ok-bytes.bytes in
     let new = c.write-answer.new.out in
-    let old : c.as-mut-slice.result.now ≡ replicate c.args.len 165 = c.as-mut-slice.ensures.value ∙ c.in-ok-bytes.ensures.items-if-clones-equal (λ y e. e) in
+    let old : c.as_mut_slice.result.now ≡ replicate c.args.len 165 = c.as_mut_slice.ensures.value ∙ c.in_ok-bytes.ensures.items-if-clones-equal (λ y e. e) in
     let long : length new ≡ v.len = omega arith in
     record {
       answer = c.write-answer.result;

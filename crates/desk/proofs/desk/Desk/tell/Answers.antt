@@ -5,8 +5,8 @@ use Rattle.desk.specs.declared.told.Told.TheVariants.{Sensitive}
 use Rattle.desk.specs.Answers.{Done}
 use Rattle.desk.proofs.desk.Desk.tell.Goals as goal
 
-pub returns-in-ok-sensitive-types : goal.returns-in-ok-sensitive-types
-returns-in-ok-sensitive-types c =
+pub returns-in_ok-sensitive_types : goal.returns-in_ok-sensitive_types
+returns-in_ok-sensitive_types c =
     let d = c.args.self.now in
     let text = c.in-ok-sensitive-types.field-0 in
     subst (λ (l : ImageLine). Done (asked l) d (Ok (Sensitive text)) d) (sym c.in-Sensitive.is)

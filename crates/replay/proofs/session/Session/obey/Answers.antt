@@ -4,10 +4,10 @@ use Rattle.replay.specs.declared.answer.Answer.TheVariants.{Made}
 use Rattle.replay.specs.Sessions.{Obeyed}
 use Rattle.replay.proofs.session.Session.obey.Goals as goal
 
-pub returns-in_ok-build : goal.returns-in_ok-build
-returns-in_ok-build c =
-    let t = c.in-ok-build.field-0 in
-    subst (λ k. Obeyed c.args.self.now.store k (Ok Made) (Some t)) (sym c.in-Build.is) (record { store = t; stands = refl; built = c.in-ok-build.ensures; answer = refl })
+pub returns-in_ok-build-in-Build : goal.returns-in_ok-build-in-Build
+returns-in_ok-build-in-Build c =
+    let t = c.in_ok-build-in-Build.field-0 in
+    subst (λ k. Obeyed c.args.self.now.store k (Ok Made) (Some t)) (sym c.in-Build.is) (record { store = t; stands = refl; built = c.in_ok-build-in-Build.ensures; answer = refl })
 
 pub returns-in-Some : goal.returns-in-Some
 returns-in-Some c =
