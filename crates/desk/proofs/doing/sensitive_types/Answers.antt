@@ -7,7 +7,7 @@ use Rattle.parts.specs.Content.{Content}
 use Rattle.desk.specs.Telling.{numbered}
 use Rattle.desk.proofs.Counting.{none_more, one_more}
 use Rattle.desk.proofs.doing.sensitive_types.Goals as goal
-use Rattle.desk.proofs.doing.sensitive_types.Goals.{Else-is_sensitive, then-is_sensitive+in_ok-number+in_ok-push_str}
+use Rattle.desk.proofs.doing.sensitive_types.Goals.{else-is_sensitive, then-is_sensitive+in_ok-number+in_ok-push_str}
 
 few_types : (m : Module) → length (said m).types ≤ 64
 few_types m = let few : m.parts.header.counts.types ≤ 64 = m.parts.header.few_types in omega (arith, length-take m.parts.header.counts.types m.parts.types)
@@ -19,13 +19,13 @@ pub loop-t-preserved : goal.loop-t-preserved
 loop-t-preserved c =
     let m = c.args.held.now in
     let t = c.loop-t.t-counter in
-    let same : get_or m.sensitive t false ≡ c.is-sensitive.result = same_from_decides _ _ (m.right t) c.is-sensitive.ensures in
-    elim c.if-is-sensitive.branch [
+    let same : get_or m.sensitive t false ≡ c.is_sensitive.result = same_from_decides _ _ (m.right t) c.is_sensitive.ensures in
+    elim c.if-is_sensitive.branch [
       | then-is_sensitive+in_ok-number+in_ok-push_str w ↦
-          let pushed = w.in-ok-push-str.ensures.bytes in
-          let number = w.as-str.ensures.value ∙ w.in-ok-number.ensures.ok in
-          ap string_bytes w.text_is ∙ pushed ∙ ap (λ l. string_bytes c.loop-t.text ++ l) number ∙ one_more m.sensitive t _ c.loop-t.invariant (same ∙ w.if-is-sensitive.true)
-      | Else-is_sensitive w ↦ ap string_bytes w.text_is ∙ none_more m.sensitive t _ c.loop-t.invariant (same ∙ w.if-is-sensitive.false)
+          let pushed = w.in_ok-push_str.ensures.bytes in
+          let number = w.as_str.ensures.value ∙ w.in_ok-number.ensures.ok in
+          ap string_bytes w.text-is ∙ pushed ∙ ap (λ l. string_bytes c.loop-t.text ++ l) number ∙ one_more m.sensitive t _ c.loop-t.invariant (same ∙ w.if-is_sensitive.true)
+      | else-is_sensitive w ↦ ap string_bytes w.text-is ∙ none_more m.sensitive t _ c.loop-t.invariant (same ∙ w.if-is_sensitive.false)
     ]
 
 pub returns : goal.returns
