@@ -1,4 +1,5 @@
 //! The array store: address a stands in slot a.
+#![tactic(auto)]
 
 ghost use Rattle.std.specs.Prelude.{◌≡◌, ℕ, min, true, false, length, replicate, None, nat_lt};
 ghost use Rattle.array_store.specs.Array.{Written, array_entry, array_held, array_kept, array_lasting, array_taken};

@@ -1,5 +1,5 @@
 use Rattle.std.specs.Prelude.{◌≡◌, ℕ, Bool, true, false, cond, ◌&&◌, List, [], ◌∷◌, Some, None, Option, ◌==◌, refl}
-use Rattle.std.proofs.Common.{arith, ap, sym, ◌∙◌, subst, eqb-true}
+use Rattle.std.proofs.Common.{arith, subst, eqb-true}
 use Rattle.content.specs.Records.{when, pick}
 
 -- each record of the table is P where n picks it

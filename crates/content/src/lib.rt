@@ -1,4 +1,5 @@
 //! What the records of an image say: types, fields, globals, locals, functions and instructions.
+#![tactic(auto)]
 
 pub mod function;
 pub mod global;

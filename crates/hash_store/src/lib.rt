@@ -1,4 +1,5 @@
 //! The hash store: any address stands in any slot, found by linear probing. Deletion shifts entries back, so that a call costs what is held now and not what was.
+#![tactic(auto)]
 
 ghost use Rattle.std.specs.Prelude.{◌≡◌, ℕ, min, length, replicate, None, nat_lt};
 ghost use Rattle.hash_store.specs.Counting.{held_count};

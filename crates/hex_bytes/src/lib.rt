@@ -1,3 +1,4 @@
 //! Bytes in hex, both ways.
+#![tactic(auto)]
 
 pub mod hex;

@@ -1,4 +1,6 @@
 //! The judge that the board's firmware calls.
+#![tactic(auto)]
+
 ghost use Rattle.std.specs.Prelude.{◌≡◌};
 ghost use Rattle.parts.specs.Content.{Content};
 ghost use Rattle.module.specs.Follows.{Follows};

@@ -1,4 +1,6 @@
 // The user's tool of the K4 controller.
+#![tactic(auto)]
+
 use anyhow::anyhow;
 use replay::session::Session;
 use script::text::split_line;

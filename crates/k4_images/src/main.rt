@@ -1,4 +1,6 @@
 // The user's tool of the K4 controller.
+#![tactic(auto)]
+
 mod judge;
 mod show;
 

@@ -1,4 +1,4 @@
-use Rattle.std.proofs.Common.{◌≡◌, ℕ, zero, suc, ◌<◌, ◌≤◌, Bool, true, false, List, Some, None, Option, sym, refl, ap, ◌∙◌, subst, true≢false, arith}
+use Rattle.std.proofs.Common.{◌≡◌, ℕ, zero, suc, Bool, true, false, List, Some, None, Option, sym, refl, ap, ◌∙◌, subst, true≢false, arith}
 use Rattle.records.specs.Words.{word_at}
 use Rattle.records.specs.declared.record.RecordFault.{RecordFault}
 use Rattle.records.proofs.Runs.{ok_same}
@@ -14,10 +14,8 @@ use Rattle.parts.specs.Content.{Content}
 use Rattle.parts.specs.Holding.{Listed, Holds, stopped, meaningless}
 use Rattle.rules.specs.declared.rule.Rule.{Rule}
 use Rattle.rules.specs.declared.rule.Rule.TheVariants.{Names, Types}
-use Rattle.rules.specs.declared.fault.RuleFault.{RuleFault}
 use Rattle.rules.specs.declared.fault.RuleFault.TheVariants.{Meaningless, Unnamed, Mistyped}
 use Rattle.rules.specs.Judging.{Kept, FirstBroken}
-use Rattle.rules.specs.Faults.{Broken}
 use Rattle.rules.proofs.Firsts.{some_none}
 use Rattle.rules.proofs.Keeps.{kept_unbroken}
 use Rattle.tables.specs.Tables.{Over}

@@ -1,14 +1,14 @@
-use Rattle.std.proofs.Common.{◌≡◌, ℕ, ◌≤◌, List, sym, refl, ap, ◌∙◌, subst, arith}
+use Rattle.std.proofs.Common.{◌≡◌, ℕ, List, sym, subst, arith}
 use Rattle.header.specs.declared.header.Header.{Header}
 use Rattle.header.specs.declared.counts.Counts.{Counts}
 use Rattle.header.specs.Header.{Headed}
 use Rattle.parts.specs.declared.parts.Parts.{Parts}
-use Rattle.parts.specs.Content.{Content, content}
+use Rattle.parts.specs.Content.{content}
 use Rattle.parts.specs.Holding.{Listed, Holds}
 use Rattle.rules.specs.declared.rule.Rule.TheVariants.{Names, Types}
 use Rattle.rules.specs.Judging.{Kept}
 use Rattle.tables.specs.declared.places.Places.{Places}
-use Rattle.tables.specs.Tables.{AllPlaced, words}
+use Rattle.tables.specs.Tables.{AllPlaced}
 use Rattle.module.specs.Follows.{Follows}
 
 -- what was read from an image is held by it

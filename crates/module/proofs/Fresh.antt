@@ -1,8 +1,7 @@
-use Rattle.std.proofs.Common.{◌≡◌, ℕ, zero, suc, List, [], ◌∷◌, None, refl, arith}
+use Rattle.std.proofs.Common.{ℕ, zero, suc, List, [], ◌∷◌, refl, arith}
 use Rattle.records.specs.Words.{spell}
-use Rattle.rules.specs.declared.rule.Rule.{Rule}
 use Rattle.rules.specs.declared.rule.Rule.TheVariants.{Names, Types}
-use Rattle.rules.specs.Judging.{Kept, Unbroken, broken}
+use Rattle.rules.specs.Judging.{Unbroken}
 use Rattle.rules.proofs.Keeps.{unbroken_kept}
 use Rattle.module.specs.Follows.{Follows}
 use Rattle.module.specs.Modules.{fresh}

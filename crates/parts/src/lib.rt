@@ -1,4 +1,5 @@
 //! The six lists of a module as an image has them, each record read for itself.
+#![tactic(auto)]
 
 pub mod lists;
 pub mod parts;

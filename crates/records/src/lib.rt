@@ -1,4 +1,5 @@
 //! Words of four bytes and records of words: one reading for every kind of record.
+#![tactic(auto)]
 
 pub mod reading;
 pub mod record;

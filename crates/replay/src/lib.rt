@@ -1,4 +1,5 @@
 //! What a replay script does to a store, and what its transcript gets for it.
+#![tactic(auto)]
 
 pub mod answer;
 mod ask;

@@ -1,12 +1,11 @@
-use Rattle.std.proofs.Common.{◌≡◌, ℕ, zero, suc, ◌+◌, ◌<◌, ◌≤◌, Bool, true, false, cond, List, [], ◌∷◌, length, Some, None, Ok, Err, Option, Result, sym, refl, ap, ◌∙◌, subst, arith, MatchResult}
+use Rattle.std.proofs.Common.{◌≡◌, ℕ, zero, suc, ◌+◌, ◌<◌, Bool, true, List, [], ◌∷◌, length, Some, None, Ok, Err, Option, Result, sym, refl, ap, ◌∙◌, subst, arith, MatchResult}
 use Rattle.std.specs.List.{slice_get}
 use Rattle.records.specs.declared.record.RecordFault.{RecordFault}
 use Rattle.content.specs.declared.function.Function.{Function}
-use Rattle.content.specs.declared.instruction.Instruction.{Instruction}
 use Rattle.parts.specs.Content.{Content}
 use Rattle.rules.specs.declared.rule.Rule.{Rule}
 use Rattle.rules.specs.Keeping.{kind_keeps, typed_keeps, global_keeps, function_keeps, instruction_keeps}
-use Rattle.rules.specs.Judging.{Kept, Unbroken, Judged, FirstBroken, first_failing, holds, first_in, shifted, or_else, broken, broken_by, broken_by_any}
+use Rattle.rules.specs.Judging.{Kept, Unbroken, Judged, FirstBroken, holds, first_in, shifted, or_else, broken, broken_by, broken_by_any}
 use Rattle.rules.proofs.Firsts.{none_fails, all_pass, some_none}
 
 module _ {R : Type 0} where

@@ -1,4 +1,5 @@
 //! The rules that records keep together: what they name is there, and their types are right.
+#![tactic(auto)]
 
 pub mod fault;
 pub mod judging;

@@ -1,4 +1,5 @@
 //! The lines of a replay script, read into commands.
+#![tactic(auto)]
 
 pub mod command;
 pub mod fault;

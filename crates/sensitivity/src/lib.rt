@@ -1,4 +1,6 @@
 //! Which types are sensitive.
+#![tactic(auto)]
+
 ghost use Rattle.std.specs.Prelude.{◌≡◌, ℕ, ◌≤◌, false, length, Some, Decides, MatchOption, slice_index_or};
 ghost use Rattle.std.specs.List.{slice_get};
 ghost use Rattle.parts.specs.Content.{content};

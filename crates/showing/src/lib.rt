@@ -1,4 +1,5 @@
 //! Modules and refusals in words, for a person to read.
+#![tactic(auto)]
 
 pub mod refusal;
 pub mod words;

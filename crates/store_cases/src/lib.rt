@@ -1,4 +1,5 @@
 //! Cases of the stores, run: each test makes a store, calls it in plain code, takes it apart and lets it go.
+#![tactic(auto)]
 
 #[cfg(test)]
 mod tests {

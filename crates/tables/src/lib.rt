@@ -1,4 +1,5 @@
 //! What a step has to know of a module, looked up beforehand.
+#![tactic(auto)]
 
 pub mod layout;
 pub mod places;

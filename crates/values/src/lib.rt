@@ -1,4 +1,5 @@
 //! Values with a mark.
+#![tactic(auto)]
 
 pub mod bounds;
 pub mod marked;

@@ -1,4 +1,5 @@
 //! The window: a part of the addresses of a store below, counted from 0.
+#![tactic(auto)]
 
 ghost use Rattle.std.specs.Prelude.{◌≡◌, ◌+◌, true, false, is_ok, if◌then◌else◌, Some, None};
 ghost use Rattle.stores.specs.Meaning.{Dropped, Put};

@@ -5,7 +5,6 @@ use Rattle.records.specs.Words.{bytes_of, spell}
 use Rattle.content.specs.declared.kind.Kind.{Kind}
 use Rattle.content.specs.declared.kind.Kind.TheVariants as kind
 use Rattle.content.specs.declared.instruction.Instruction.{Instruction}
-use Rattle.content.specs.declared.instruction.Instruction.TheVariants as op
 use Rattle.content.specs.Records.{kind_words, typed_words, global_words, function_words, instruction_words}
 use Rattle.header.specs.Header.{end_at}
 use Rattle.parts.specs.Content.{Content}

@@ -1,4 +1,6 @@
 //! The image of a module's lists, written.
+#![tactic(auto)]
+
 ghost use Rattle.std.specs.Prelude.{◌≡◌, ◌≤◌, ◌++◌, length, drop};
 ghost use Rattle.records.specs.Words.{spell};
 ghost use Rattle.header.specs.Header.{end_at};

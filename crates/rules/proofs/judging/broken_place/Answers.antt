@@ -1,4 +1,4 @@
-use Rattle.std.proofs.Common.{sym, refl, ap, ◌∙◌, arith, below_more}
+use Rattle.std.proofs.Common.{sym, ap, arith, below_more}
 use Rattle.rules.specs.Judging.{shifted}
 use Rattle.rules.proofs.Firsts.{none_fails, first_fails}
 use Rattle.rules.proofs.judging.broken_place.Goals as goal

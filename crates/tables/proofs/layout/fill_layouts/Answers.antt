@@ -1,4 +1,4 @@
-use Rattle.std.proofs.Common.{◌≡◌, length, Some, sym, ap, ◌∙◌, arith, below_more}
+use Rattle.std.proofs.Common.{Some, ap, ◌∙◌, arith, below_more}
 use Rattle.std.proofs.lemmas.List.{length-set}
 use Rattle.parts.specs.Content.{viewed}
 use Rattle.rules.proofs.Keeps.{nth_below}

@@ -1,7 +1,5 @@
-use Rattle.std.proofs.Common.{◌≡◌, ◌+◌, ◌*◌, ◌≤◌, take, set, Some, sym, refl, ap, ◌∙◌, arith, below_more}
-use Rattle.std.specs.List.{slice_get}
+use Rattle.std.proofs.Common.{◌≡◌, ◌+◌, take, Some, ap, ◌∙◌, arith, below_more}
 use Rattle.std.proofs.lemmas.List.{length-set, take_all}
-use Rattle.tables.specs.declared.places.Span.{Span}
 use Rattle.tables.specs.Tables.{words}
 use Rattle.tables.proofs.Words.{words_more, words_front, nth_set_same, nth_set_below}
 use Rattle.tables.proofs.places.place_all.Goals as goal

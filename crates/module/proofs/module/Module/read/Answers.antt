@@ -1,4 +1,4 @@
-use Rattle.std.proofs.Common.{◌≡◌, refl}
+use Rattle.std.proofs.Common.{refl}
 use Rattle.std.proofs.lemmas.Result.{err_from_is_err_and}
 use Rattle.module.proofs.Exact.{same_content, not_refused}
 use Rattle.module.proofs.Again.{not_again, same_again}
