@@ -1,4 +1,6 @@
 // One small task, told in sentences: a table of segment functions outlives a panel that scribbles over memory.
+#![tactic(auto)]
+
 use anyhow::anyhow;
 use hash_store::HashStore;
 use hash_store::slot::Slot;

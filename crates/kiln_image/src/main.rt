@@ -1,4 +1,6 @@
 // The image of a firing's module, told in sentences.
+#![tactic(auto)]
+
 mod kiln;
 mod look;
 
