@@ -6,6 +6,7 @@ use replay::session::Session;
 use script::text::split_line;
 use std::env;
 use std::io::Read;
+use std::process::ExitCode;
 
 const USAGE: &str =
     "usage: k4 replay < SCRIPT\n\nreplay  does the calls of a script, line by line, and writes what they answered\n";
@@ -47,12 +48,13 @@ fn run(rt: &HostRuntime) -> anyhow::Result<()> {
     }
 }
 
-fn main(rt: HostRuntime) -> anyhow::Result<()> {
+fn main(rt: HostRuntime) -> ExitCode {
     match run(&rt) {
-        Ok(()) => Ok(()),
+        Ok(()) => ExitCode::SUCCESS,
         Err(error) => {
-            eprintln!(rt; "k4: {error}")?;
-            Err(error)
+            // Where standard error fails too, the status still tells.
+            let _ = eprintln!(rt; "k4: {error}");
+            ExitCode::FAILURE
         }
     }
 }

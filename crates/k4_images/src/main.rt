@@ -11,6 +11,7 @@ use script::text::split_line;
 use show::show_file;
 use std::env;
 use std::io::Read;
+use std::process::ExitCode;
 
 const USAGE: &str =
     "usage: k4 replay < SCRIPT\n       k4 judge FILE\n       k4 show FILE\n\nreplay  does the calls of a script, line by line, and writes what they answered\njudge   says whether the module image in FILE is accepted, and if not, why\nshow    writes what the module says\n";
@@ -64,12 +65,13 @@ fn run(rt: &HostRuntime) -> anyhow::Result<()> {
     }
 }
 
-fn main(rt: HostRuntime) -> anyhow::Result<()> {
+fn main(rt: HostRuntime) -> ExitCode {
     match run(&rt) {
-        Ok(()) => Ok(()),
+        Ok(()) => ExitCode::SUCCESS,
         Err(error) => {
-            eprintln!(rt; "k4: {error}")?;
-            Err(error)
+            // Where standard error fails too, the status still tells.
+            let _ = eprintln!(rt; "k4: {error}");
+            ExitCode::FAILURE
         }
     }
 }
