@@ -1,4 +1,4 @@
-//! The judge that the board's firmware calls.
+//! The judge of images, by number: what the board's firmware calls, through `judge_c`.
 #![tactic(auto)]
 
 ghost use Rattle.std.specs.Prelude.{◌≡◌};
@@ -9,8 +9,7 @@ ghost use Rattle.judge.specs.Judged.{Judged};
 use module::reading::judge;
 
 // 0, or the number of the image's first fault.
-#[unsafe(no_mangle)]
-pub extern "C" fn k4_judge(image: &[u8]) -> u32
+pub fn k4_judge(image: &[u8]) -> u32
     ensures answer { Judged image.now result }
     ensures exact { (c : Content) → Follows image.now c → result ≡ 0 }
 {

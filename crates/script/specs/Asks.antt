@@ -1,5 +1,6 @@
 -- What the lines about modules say, word by word.
 use Rattle.std.specs.Prelude.{ℕ, cond, List, [], ◌∷◌, Some, None, Ok, Err, Option, Result}
+use Rattle.std.specs.Result.{result_map_both}
 use Rattle.script.specs.declared.fault.Fault.{Fault}
 use Rattle.script.specs.Lines.{Left, at_end, heard, spells, take_number, then}
 use Rattle.hex_bytes.specs.Hex.{bytes_of, hexed}
@@ -19,33 +20,35 @@ asked (Image digits) = image (bytes_of digits.now)
 asked (Write n) = write n
 asked Sensitive = sensitive
 
--- a line's own fault among those of a line about modules
-abbrev pub wrapped : {A : Type 0} → Result A Fault → Result A ImageFault
-wrapped (Ok x) = Ok x
-wrapped (Err e) = Err (Line e)
+-- what is read of a line, by what it asks for
+abbrev pub heard_image : Result ImageLine ImageFault → Result Asked ImageFault
+heard_image r = result_map_both asked (λ e. e) r
 
-abbrev pub mended : {A B : Type 0} → (A → B) → Result A ImageFault → Result B ImageFault
-mended f (Ok x) = Ok (f x)
-mended f (Err e) = Err e
+-- a line's own fault among those of a line about modules
+abbrev pub in_line : {A : Type 0} → Result A Fault → Result A ImageFault
+in_line r = result_map_both (λ x. x) Line r
 
 -- no word is left
-abbrev pub alone : Asked → Left → Result Asked Fault
-alone a ws = heard (λ _. a) (at_end (tt {0}) ws)
+abbrev pub ended : Asked → Left → Result Asked Fault
+ended a ws = heard (λ _. a) (at_end (tt {0}) ws)
+
+abbrev pub alone : Asked → Left → Result Asked ImageFault
+alone a ws = in_line (ended a ws)
 
 -- bytes in hex, or no word for no bytes
 unfoldable pub image_words : Left → Result Asked ImageFault
 image_words [] = Ok (image [])
-image_words (w ∷ ws) = cond (hexed w) (wrapped (alone (image (bytes_of w)) ws)) (Err Hex)
+image_words (w ∷ ws) = cond (hexed w) (alone (image (bytes_of w)) ws) (Err Hex)
 
 -- how many bytes
-unfoldable pub write_words : Left → Result Asked Fault
-write_words ws = then (take_number 65536 ws) (λ n ws. alone (write n) ws)
+unfoldable pub write_words : Left → Result Asked ImageFault
+write_words ws = in_line (then (take_number 65536 ws) (λ n ws. ended (write n) ws))
 
 unfoldable pub verb_words : List ℕ → Left → Option (Result Asked ImageFault)
 verb_words verb ws =
     cond (spells verb "image") (Some (image_words ws))
-    (cond (spells verb "write") (Some (wrapped (write_words ws)))
-    (cond (spells verb "sensitive") (Some (wrapped (alone sensitive ws)))
+    (cond (spells verb "write") (Some (write_words ws))
+    (cond (spells verb "sensitive") (Some (alone sensitive ws))
     None))
 
 -- Nothing, where a line isn't about modules.

@@ -1,10 +1,10 @@
 // A line about modules, read into what it asks for.
 ghost use Rattle.std.specs.Prelude.{◌≡◌};
 ghost use Rattle.std.specs.Option.{option_map};
-ghost use Rattle.script.specs.Lines.{heard};
 ghost use Rattle.script.specs.Words.{words as split};
-ghost use Rattle.script.specs.Asks.{alone, asked, asked_words, image_words, mended, wrapped, write_words};
+ghost use Rattle.script.specs.Asks.{alone, asked_words, heard_image, image_words, write_words};
 ghost use Rattle.script.specs.Asks as asks;
+ghost use Rattle.script.specs.declared.image_line.ImageFault.TheVariants as image_fault;
 
 use crate::fault::Fault;
 use crate::words::{Words, is};
@@ -21,6 +21,14 @@ pub enum ImageFault {
     Hex,
 }
 
+impl From<Fault> for ImageFault {
+    ghost from_gives = { λ e r. r ≡ image_fault.Line e };
+
+    fn from(fault: Fault) -> ImageFault {
+        ImageFault::Line(fault)
+    }
+}
+
 #[derive(Clone, Copy)]
 pub enum ImageLine<'a> {
     // The digits of an image's bytes.
@@ -30,61 +38,51 @@ pub enum ImageLine<'a> {
     Sensitive,
 }
 
+#[tactic(auto, unfolding(crate::specs::Asks::image_words))]
 fn image<'a>(words: &mut Words<'a>) -> Result<ImageLine<'a>, ImageFault>
-    ensures { mended asked result ≡ image_words (split words.old.rest.now) }
+    ensures { heard_image result ≡ image_words (split words.old.rest.now) }
 {
     match words.next() {
         Some(digits) => {
-            if is_hex(digits) {
-                match words.end() {
-                    Ok(()) => Ok(ImageLine::Image(digits)),
-                    Err(fault) => Err(ImageFault::Line(fault)),
-                }
-            } else {
-                Err(ImageFault::Hex)
+            if !is_hex(digits) {
+                return Err(ImageFault::Hex);
             }
+            words.end()?;
+            Ok(ImageLine::Image(digits))
         }
         None => Ok(ImageLine::Image(&[])),
     }
 }
 
-fn write<'a>(words: &mut Words<'a>) -> Result<ImageLine<'a>, Fault>
-    ensures { heard asked result ≡ write_words (split words.old.rest.now) }
+#[tactic(auto, unfolding(crate::specs::Asks::write_words))]
+fn write<'a>(words: &mut Words<'a>) -> Result<ImageLine<'a>, ImageFault>
+    ensures { heard_image result ≡ write_words (split words.old.rest.now) }
 {
     let bytes = words.number(MOST_BYTES)?;
     words.end()?;
     Ok(ImageLine::Write(bytes))
 }
 
-fn sensitive<'a>(words: &mut Words<'a>) -> Result<ImageLine<'a>, Fault>
-    ensures { heard asked result ≡ alone asks.sensitive (split words.old.rest.now) }
+fn sensitive<'a>(words: &mut Words<'a>) -> Result<ImageLine<'a>, ImageFault>
+    ensures { heard_image result ≡ alone asks.sensitive (split words.old.rest.now) }
 {
     words.end()?;
     Ok(ImageLine::Sensitive)
 }
 
-// A line's own fault among those of a line about modules.
-fn in_line(answer: Result<ImageLine, Fault>) -> Result<ImageLine, ImageFault>
-    ensures { mended asked result ≡ wrapped (heard asked answer.entry) }
-{
-    match answer {
-        Ok(line) => Ok(line),
-        Err(fault) => Err(ImageFault::Line(fault)),
-    }
-}
-
 // What the line asks for, or nothing where it isn't about modules.
+#[tactic(auto, unfolding(crate::specs::Asks::verb_words))]
 pub fn parse(line: &[u8]) -> Option<Result<ImageLine, ImageFault>>
-    ensures { option_map (mended asked) result ≡ asked_words (split line.now) }
+    ensures { option_map heard_image result ≡ asked_words (split line.now) }
 {
     let mut words = Words::of(line);
     let verb = words.next()?;
     if is(verb, "image") {
         Some(image(&mut words))
     } else if is(verb, "write") {
-        Some(in_line(write(&mut words)))
+        Some(write(&mut words))
     } else if is(verb, "sensitive") {
-        Some(in_line(sensitive(&mut words)))
+        Some(sensitive(&mut words))
     } else {
         None
     }

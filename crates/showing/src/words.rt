@@ -1,5 +1,6 @@
 // Types and instructions in words.
-ghost use Rattle.std.specs.Prelude.{None};
+ghost use Rattle.std.specs.Prelude.{Some};
+ghost use Rattle.showing.specs.Words.{kind_text, instruction_text};
 
 use content::instruction::Instruction;
 use content::kind::Kind;
@@ -11,7 +12,7 @@ pub struct KindWords {
 }
 
 impl fmt::Display for KindWords {
-    ghost output = { λ _. None };
+    ghost output = { λ w. Some (kind_text w.kind) };
 
     fn fmt<W: fmt::Write>(&self, f: &mut fmt::Formatter<W>) -> fmt::Result {
         match self.kind {
@@ -33,7 +34,7 @@ pub struct InstructionWords {
 }
 
 impl fmt::Display for InstructionWords {
-    ghost output = { λ _. None };
+    ghost output = { λ w. Some (instruction_text w.instruction) };
 
     fn fmt<W: fmt::Write>(&self, f: &mut fmt::Formatter<W>) -> fmt::Result {
         match self.instruction {
