@@ -1,7 +1,7 @@
 //! The array store: address a stands in slot a.
 #![tactic(auto)]
 
-ghost use Rattle.std.specs.Prelude.{◌≡◌, ℕ, min, true, false, length, replicate, None, nat_lt};
+ghost use Rattle.std.specs.Prelude.{◌≡◌, ℕ, min, true, false, is_ok, length, replicate, None, nat_lt};
 ghost use Rattle.array_store.specs.Array.{Written, array_entry, array_held, array_kept, array_lasting, array_taken};
 
 use stores::slots::{emptied, first_of};
@@ -14,22 +14,15 @@ pub struct ArrayStore<V: Copy> {
 
 impl<V: Copy> ArrayStore<V> {
     // Empties all the slots, also those that don't count.
+    #[tactic(auto, using(crate::proofs::Rows::empty_entry, crate::proofs::Rows::empty_taken))]
     pub fn new(slots: Vec<Option<V>>) -> ArrayStore<V>
         ensures nothing { (a : ℕ) → array_entry result a ≡ None }
         ensures taken { (a : ℕ) → array_taken result a ≡ nat_lt a (min 65536 (length slots.items)) }
         ensures slots { result.slots.items ≡ replicate (length slots.items) None }
     {
-        ArrayStore::over(emptied(slots, None))
-    }
-
-    // The store on empty slots.
-    fn over(slots: Vec<Option<V>>) -> ArrayStore<V>
-        requires { slots.items ≡ replicate (length slots.items) None }
-        ensures nothing { (a : ℕ) → array_entry result a ≡ None }
-        ensures taken { (a : ℕ) → array_taken result a ≡ nat_lt a (min 65536 (length slots.items)) }
-        ensures slots { result.slots ≡ slots }
-    {
-        ArrayStore { slots }
+        ArrayStore {
+            slots: emptied(slots, None),
+        }
     }
 
     // Gives back the slots that it was made with.
@@ -41,18 +34,19 @@ impl<V: Copy> ArrayStore<V> {
     }
 
     // Writes to the address's slot, if it counts.
-    fn write(&mut self, a: u32, slot: Option<V>) -> bool
-        ensures answer { result ≡ array_taken self.old a }
-        ensures refused { result ≡ false → self.new ≡ self.old }
-        ensures made { result ≡ true → array_entry self.new a ≡ slot }
+    #[tactic(auto, using(stores::proofs::Counted::counted_length))]
+    fn write(&mut self, a: u32, slot: Option<V>) -> Result<(), NotTaken>
+        ensures answer { is_ok result ≡ array_taken self.old a }
+        ensures refused { is_ok result ≡ false → self.new ≡ self.old }
+        ensures made { is_ok result ≡ true → array_entry self.new a ≡ slot }
         ensures written { Written self.old self.new a slot }
         ensures kept { array_kept self.old self.new }
     {
         if self.takes(a) {
             self.slots[a as usize] = slot;
-            true
+            Ok(())
         } else {
-            false
+            Err(NotTaken)
         }
     }
 }
@@ -71,22 +65,15 @@ impl<V: Copy> Store for ArrayStore<V> {
     ghost lasting = { array_lasting };
 
     fn get(&self, a: u32) -> Option<V> {
-        match first_of(self.slots.as_slice()).get(a as usize) {
-            Some(slot) => *slot,
-            None => None,
-        }
+        first_of(&self.slots).get(a as usize).copied().flatten()
     }
 
     fn takes(&self, a: u32) -> bool {
-        (a as usize) < first_of(self.slots.as_slice()).len()
+        (a as usize) < first_of(&self.slots).len()
     }
 
     fn put(&mut self, a: u32, v: V) -> Result<(), NotTaken> {
-        if self.write(a, Some(v)) {
-            Ok(())
-        } else {
-            Err(NotTaken)
-        }
+        self.write(a, Some(v))
     }
 
     fn drop(&mut self, a: u32) {

@@ -1,3 +1,3 @@
 pub mod Records
 pub mod Faithful
-pub mod Picked
+pub mod Words

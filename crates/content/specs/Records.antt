@@ -1,4 +1,5 @@
 use Rattle.std.specs.Prelude.{ℕ, Bool, true, cond, ◌&&◌, List, [], ◌∷◌, Some, None, Option, ◌==◌, nat_le, slice_index}
+use Rattle.std.specs.Bool.{then_some}
 use Rattle.content.specs.declared.kind.Kind.{Kind}
 use Rattle.content.specs.declared.kind.Kind.TheVariants as kind
 use Rattle.content.specs.declared.typed.Typed.{Typed}
@@ -7,13 +8,10 @@ use Rattle.content.specs.declared.function.Function.{Function}
 use Rattle.content.specs.declared.instruction.Instruction.{Instruction}
 use Rattle.content.specs.declared.instruction.Instruction.TheVariants as op
 
-abbrev pub when : {R : Type 0} → Bool → R → Option R
-when b r = cond b (Some r) None
-
 -- the record that stands under n, if its words are in range
 abbrev pub pick : {R : Type 0} → ℕ → List (ℕ × Bool × R) → Option R
 pick n [] = None
-pick n ((k, b, r) ∷ rest) = cond (n == k) (when b r) (pick n rest)
+pick n ((k, b, r) ∷ rest) = cond (n == k) (then_some b r) (pick n rest)
 
 -- the types by their kinds, of the words a, b; words that a kind doesn't use are 0
 abbrev pub kinds : ℕ → ℕ → List (ℕ × Bool × Kind)
@@ -43,13 +41,13 @@ abbrev pub typed_words : Typed → List ℕ
 typed_words t = t.kind ∷ []
 
 abbrev pub global_from : List ℕ → Option Global
-global_from ws = when (nat_le 1 (slice_index ws 1) && nat_le (slice_index ws 1) 4096) (record { kind = slice_index ws 0; count = slice_index ws 1 })
+global_from ws = then_some (nat_le 1 (slice_index ws 1) && nat_le (slice_index ws 1) 4096) (record { kind = slice_index ws 0; count = slice_index ws 1 })
 
 abbrev pub global_words : Global → List ℕ
 global_words g = g.kind ∷ g.count ∷ []
 
 abbrev pub function_from : List ℕ → Option Function
-function_from ws = when (nat_le 1 (slice_index ws 1) && nat_le (slice_index ws 3) 8) (record { first = slice_index ws 0; count = slice_index ws 1; first_local = slice_index ws 2; locals = slice_index ws 3 })
+function_from ws = then_some (nat_le 1 (slice_index ws 1) && nat_le (slice_index ws 3) 8) (record { first = slice_index ws 0; count = slice_index ws 1; first_local = slice_index ws 2; locals = slice_index ws 3 })
 
 abbrev pub function_words : Function → List ℕ
 function_words f = f.first ∷ f.count ∷ f.first_local ∷ f.locals ∷ []

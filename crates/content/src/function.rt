@@ -1,8 +1,8 @@
 // A record of the list of functions: its ranges of instructions and of locals.
 ghost use Rattle.content.specs.Records.{function_from, function_words};
+ghost use Rattle.content.specs.Faithful.{function_faithful};
 ghost use Rattle.std.proofs.Common.{rules};
 
-use crate::ranged::only;
 use records::record::Record;
 
 #[derive(Clone, Copy, PartialEq, Eq)]
@@ -13,9 +13,7 @@ pub struct Function {
     pub locals: u32,
 }
 
-impl Record for Function {
-    ghost width = { 4 };
-
+impl Record<4> for Function {
     ghost meant = { function_from };
 
     ghost spelt = { function_words };
@@ -24,20 +22,18 @@ impl Record for Function {
 
     ghost long = { Prim.search rules };
 
-    ghost faithful = { Prim.search rules };
+    ghost faithful = { function_faithful };
 
-    fn words() -> usize {
-        4
-    }
-
-    fn read(words: [u32; 4]) -> Option<Function> {
-        let function = Function {
-            first: words[0],
-            count: words[1],
-            first_local: words[2],
-            locals: words[3],
-        };
-        only(1 <= words[1] && words[3] <= 8, function)
+    fn read(words: &[u32; 4]) -> Option<Function> {
+        match *words {
+            [first, count @ 1.., first_local, locals @ ..=8] => Some(Function {
+                first,
+                count,
+                first_local,
+                locals,
+            }),
+            _ => None,
+        }
     }
 
     fn write(self) -> [u32; 4] {

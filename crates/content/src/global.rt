@@ -1,8 +1,8 @@
 // A record of the list of globals: a type, repeated.
 ghost use Rattle.content.specs.Records.{global_from, global_words};
+ghost use Rattle.content.specs.Faithful.{global_faithful};
 ghost use Rattle.std.proofs.Common.{rules};
 
-use crate::ranged::only;
 use records::record::Record;
 
 #[derive(Clone, Copy, PartialEq, Eq)]
@@ -11,9 +11,7 @@ pub struct Global {
     pub count: u32,
 }
 
-impl Record for Global {
-    ghost width = { 2 };
-
+impl Record<2> for Global {
     ghost meant = { global_from };
 
     ghost spelt = { global_words };
@@ -22,18 +20,16 @@ impl Record for Global {
 
     ghost long = { Prim.search rules };
 
-    ghost faithful = { Prim.search rules };
+    ghost faithful = { global_faithful };
 
-    fn words() -> usize {
-        2
+    fn read(words: &[u32; 2]) -> Option<Global> {
+        match *words {
+            [kind, count @ 1..=4096] => Some(Global { kind, count }),
+            _ => None,
+        }
     }
 
-    fn read(words: [u32; 4]) -> Option<Global> {
-        let (kind, count) = (words[0], words[1]);
-        only(1 <= count && count <= 4096, Global { kind, count })
-    }
-
-    fn write(self) -> [u32; 4] {
-        [self.kind, self.count, 0, 0]
+    fn write(self) -> [u32; 2] {
+        [self.kind, self.count]
     }
 }

@@ -3,7 +3,6 @@ ghost use Rattle.content.specs.Records.{instruction_from, instruction_words};
 ghost use Rattle.content.specs.Faithful.{instruction_faithful};
 ghost use Rattle.std.proofs.Common.{rules};
 
-use crate::ranged::only;
 use records::record::Record;
 
 #[derive(Clone, Copy, PartialEq, Eq)]
@@ -27,9 +26,7 @@ pub enum Instruction {
     Return,
 }
 
-impl Record for Instruction {
-    ghost width = { 4 };
-
+impl Record<4> for Instruction {
     ghost meant = { instruction_from };
 
     ghost spelt = { instruction_words };
@@ -40,34 +37,25 @@ impl Record for Instruction {
 
     ghost faithful = { instruction_faithful };
 
-    fn words() -> usize {
-        4
-    }
-
-    fn read(words: [u32; 4]) -> Option<Instruction> {
-        let (a, b, c) = (words[1], words[2], words[3]);
-        match words[0] {
-            0 => only(c == 0, Instruction::Set { x: a, n: b }),
-            1 => Some(Instruction::Add { x: a, y: b, z: c }),
-            2 => Some(Instruction::Subtract { x: a, y: b, z: c }),
-            3 => Some(Instruction::Less { x: a, y: b, z: c }),
-            4 => only(c == 0, Instruction::Cast { x: a, y: b }),
-            5 => only(b == 0 && c == 0, Instruction::Jump { to: a }),
-            6 => only(c == 0, Instruction::Branch { x: a, to: b }),
-            7 => only(c == 0, Instruction::Function { x: a, function: b }),
-            8 => only(c == 0, Instruction::Global { x: a, global: b }),
-            9 => only(c == 0, Instruction::Allocate { x: a, y: b }),
-            10 => Some(Instruction::Move { x: a, y: b, z: c }),
-            11 => Some(Instruction::Field {
-                x: a,
-                y: b,
-                field: c,
-            }),
-            12 => only(c == 0, Instruction::Load { x: a, y: b }),
-            13 => only(c == 0, Instruction::Store { x: a, y: b }),
-            14 => only(b == 0 && c == 0, Instruction::Call { function: a }),
-            15 => only(b == 0 && c == 0, Instruction::CallThrough { x: a }),
-            16 => only(a == 0 && b == 0 && c == 0, Instruction::Return),
+    fn read(words: &[u32; 4]) -> Option<Instruction> {
+        match *words {
+            [0, x, n, 0] => Some(Instruction::Set { x, n }),
+            [1, x, y, z] => Some(Instruction::Add { x, y, z }),
+            [2, x, y, z] => Some(Instruction::Subtract { x, y, z }),
+            [3, x, y, z] => Some(Instruction::Less { x, y, z }),
+            [4, x, y, 0] => Some(Instruction::Cast { x, y }),
+            [5, to, 0, 0] => Some(Instruction::Jump { to }),
+            [6, x, to, 0] => Some(Instruction::Branch { x, to }),
+            [7, x, function, 0] => Some(Instruction::Function { x, function }),
+            [8, x, global, 0] => Some(Instruction::Global { x, global }),
+            [9, x, y, 0] => Some(Instruction::Allocate { x, y }),
+            [10, x, y, z] => Some(Instruction::Move { x, y, z }),
+            [11, x, y, field] => Some(Instruction::Field { x, y, field }),
+            [12, x, y, 0] => Some(Instruction::Load { x, y }),
+            [13, x, y, 0] => Some(Instruction::Store { x, y }),
+            [14, function, 0, 0] => Some(Instruction::Call { function }),
+            [15, x, 0, 0] => Some(Instruction::CallThrough { x }),
+            [16, 0, 0, 0] => Some(Instruction::Return),
             _ => None,
         }
     }

@@ -5,5 +5,5 @@ pub mod function;
 pub mod global;
 pub mod instruction;
 pub mod kind;
-mod ranged;
 pub mod typed;
+mod words;

@@ -1,5 +1,6 @@
 // A record of the list of fields or of locals: the number of its type.
 ghost use Rattle.content.specs.Records.{typed_from, typed_words};
+ghost use Rattle.content.specs.Faithful.{typed_faithful};
 ghost use Rattle.std.proofs.Common.{rules};
 
 use records::record::Record;
@@ -9,9 +10,7 @@ pub struct Typed {
     pub kind: u32,
 }
 
-impl Record for Typed {
-    ghost width = { 1 };
-
+impl Record<1> for Typed {
     ghost meant = { typed_from };
 
     ghost spelt = { typed_words };
@@ -20,17 +19,14 @@ impl Record for Typed {
 
     ghost long = { Prim.search rules };
 
-    ghost faithful = { Prim.search rules };
+    ghost faithful = { typed_faithful };
 
-    fn words() -> usize {
-        1
+    fn read(words: &[u32; 1]) -> Option<Typed> {
+        let [kind] = *words;
+        Some(Typed { kind })
     }
 
-    fn read(words: [u32; 4]) -> Option<Typed> {
-        Some(Typed { kind: words[0] })
-    }
-
-    fn write(self) -> [u32; 4] {
-        [self.kind, 0, 0, 0]
+    fn write(self) -> [u32; 1] {
+        [self.kind]
     }
 }

@@ -4,17 +4,15 @@ use Rattle.std.specs.declared.alloc.AllocError.{AllocError}
 use Rattle.std.specs.declared.alloc.Global.{Global}
 use Rattle.script.specs.Lines.{Left}
 use Rattle.script.specs.declared.image_line.ImageFault.{ImageFault}
-use Rattle.script.specs.declared.image_line.ImageFault.TheVariants.{Hex, Line}
 use Rattle.script.specs.Asks.{Asked, asked_words, image, sensitive, write}
 use Rattle.module.specs.Modules.{said}
 use Rattle.module.specs.Modules as modules
 use Rattle.module.specs.declared.module.Module.{Module}
 use Rattle.replay.specs.Replies.{Replied}
 use Rattle.replay.specs.declared.reply.Reply as reply
-use Rattle.replay.specs.declared.reply.Reply.TheVariants.{Faulty}
 use Rattle.desk.specs.declared.desk.Desk.{Desk}
 use Rattle.desk.specs.declared.told.Told.{Told}
-use Rattle.desk.specs.declared.told.Told.TheVariants.{NotHex, Reply, Sensitive}
+use Rattle.desk.specs.declared.told.Told.TheVariants.{Faulty, Reply, Sensitive}
 use Rattle.desk.specs.Telling.{Listed, ReadSo, WroteSo}
 
 -- The sensitive types of the module m were told.
@@ -47,8 +45,7 @@ pub record Handed (before : Desk) (n : ℕ) (line : Left) (r : Result Told Alloc
 
 abbrev pub ByAsked : Option (Result Asked ImageFault) → Desk → ℕ → Left → Result Told AllocError → Desk → Type 0
 ByAsked (Some (Ok a)) before n line r after = Done a before r after
-ByAsked (Some (Err (Line f))) before n line r after = (r ≡ Ok (Reply (Faulty n f))) × (after ≡ before)
-ByAsked (Some (Err Hex)) before n line r after = (r ≡ Ok (NotHex n)) × (after ≡ before)
+ByAsked (Some (Err f)) before n line r after = (r ≡ Ok (Faulty n f)) × (after ≡ before)
 ByAsked None before n line r after = Handed before n line r after
 
 -- The line of number n and these words.

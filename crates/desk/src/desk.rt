@@ -8,9 +8,8 @@ ghost use Rattle.desk.specs.Answers.{Done, Heard};
 use crate::doing::{read_image, sensitive_types, write_image};
 use crate::told::Told;
 use module::module::Module;
-use replay::reply::Reply;
 use replay::session::Session;
-use script::image_line::{ImageFault, ImageLine, parse};
+use script::image_line::{ImageLine, parse};
 use std::alloc::{AllocError, Global};
 
 #[derive(Drop)]
@@ -47,8 +46,7 @@ impl Desk {
     {
         match parse(line) {
             Some(Ok(asked)) => self.tell(heap, asked),
-            Some(Err(ImageFault::Line(fault))) => Ok(Told::Reply(Reply::Faulty(number, fault))),
-            Some(Err(ImageFault::Hex)) => Ok(Told::NotHex(number)),
+            Some(Err(fault)) => Ok(Told::Faulty(number, fault)),
             None => Ok(Told::Reply(self.session.reply(heap, number, line)?)),
         }
     }

@@ -34,6 +34,7 @@ pub(crate) fn sensitive_types(heap: Global, held: &Module) -> Result<String, All
 {
     let types = held.lists().types.len() as u32;
     let mut text = String::new(heap);
+    // Over the numbers of the types, since these are told and the types are not looked at.
     for t in 0..types {
         if held.is_sensitive(t) {
             let number = format!(in heap; " {t}")?;

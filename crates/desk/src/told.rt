@@ -4,15 +4,16 @@ ghost use Rattle.desk.specs.Shown.{shown_told};
 
 use module::fault::{ModuleFault, Refusal};
 use replay::reply::Reply;
+use script::image_line::ImageFault;
 use std::fmt;
 use writing::TooShort;
 
 #[derive(Drop)]
 pub enum Told {
-    // What a store line gets, and what any line gets that is wrong.
+    // What a line gets that isn't about modules.
     Reply(Reply),
-    // The line of this number has a word that should be bytes in hex.
-    NotHex(u64),
+    // A line about modules: its number, and what is wrong with it.
+    Faulty(u64, ImageFault),
     Read(Result<(), ModuleFault>),
     // With the bytes in hex.
     Wrote(Result<usize, TooShort>, String),
@@ -26,20 +27,17 @@ impl fmt::Display for Told {
     fn fmt<W: fmt::Write>(&self, f: &mut fmt::Formatter<W>) -> fmt::Result {
         match self {
             Told::Reply(reply) => write!(f, "{reply}"),
-            Told::NotHex(number) => write!(f, "error line {number}: not bytes in hex\n"),
+            Told::Faulty(number, fault) => write!(f, "error line {number}: {fault}\n"),
             Told::Read(Ok(())) => f.write_str("accepted\n"),
             Told::Read(Err(fault)) => {
-                let Refusal {
-                    number,
-                    list,
-                    record,
-                } = fault.refusal();
-                write!(f, "refused {number} {list} {record}\n")
+                let refusal = fault.refusal();
+                write!(f, "refused {refusal}\n")
             }
-            Told::Wrote(answer, hex) => match answer {
-                Ok(len) => write!(f, "wrote {len}\nbytes {hex}\n"),
-                Err(_) => write!(f, "refused 9 0 0\nbytes {hex}\n"),
-            },
+            Told::Wrote(Ok(len), hex) => write!(f, "wrote {len}\nbytes {hex}\n"),
+            Told::Wrote(Err(short), hex) => {
+                let refusal = Refusal::from(*short);
+                write!(f, "refused {refusal}\nbytes {hex}\n")
+            }
             Told::Sensitive(numbers) => write!(f, "sensitive{numbers}\n"),
         }
     }

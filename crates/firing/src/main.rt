@@ -1,9 +1,11 @@
 // One small task, told in sentences: a table of segment functions outlives a panel that scribbles over memory.
 #![tactic(auto)]
 
+mod segment;
+
 use anyhow::anyhow;
 use hash_store::HashStore;
-use hash_store::slot::Slot;
+use segment::{Function, Segment};
 use stores::store::Store;
 use values::marked::Marked;
 use window::Window;
@@ -15,71 +17,54 @@ const TABLE: u32 = 40;
 
 const SEGMENTS: u32 = 4;
 
+// The table's segments, each in its place.
+const FIRING: [Segment; SEGMENTS as usize] = [
+    Segment::Ramp,
+    Segment::Hold,
+    Segment::Cool,
+    Segment::Off,
+];
+
+// What the output says where nothing is kept: no segment's function has this number.
+const NOTHING_KEPT: Function = Function(0);
+
 const SLOTS: usize = 8;
 
 const MEMORY: usize = 64;
 
-const FULL_POWER: u32 = 9;
+const FULL_POWER: u32 = Segment::FullPower as u32;
 
-fn segment_name(function: u32) -> &'static str {
-    match function {
-        1 => "ramp",
-        2 => "hold",
-        3 => "cool",
-        4 => "off",
-        9 => "full power",
-        _ => "unknown",
-    }
-}
-
-// The function that a value names, or 0.
-fn function_of(value: Option<Marked>) -> u32 {
-    match value {
-        Some(marked) => match marked {
-            Marked::Code(function) => function,
-            Marked::Data(_, _) => 0,
-        },
-        None => 0,
-    }
-}
-
-// The word that regular memory has for a segment.
-fn word_at(memory: &[u32], place: u32) -> u32 {
-    match memory.get(TABLE as usize + (place % SEGMENTS) as usize) {
-        Some(word) => *word,
-        None => 0,
+// The function that is kept at the address.
+fn kept<S: Store<Entry = Marked>>(store: &S, a: u32) -> Option<Function> {
+    match store.get(a)? {
+        Marked::Code(function) => Some(Function(function)),
+        Marked::Data(_, _) => None,
     }
 }
 
 fn keep_table(rt: &HostRuntime, table: &mut Table) -> anyhow::Result<()> {
-    for place in 0..SEGMENTS {
-        let function = place + 1;
-        let name = segment_name(function);
-        let address = TABLE + place;
-        if table.put(place, Marked::Code(function)).is_err() {
-            return Err(anyhow!("the safe store has no room for the table"));
-        }
+    for ((place, address), segment) in (0..SEGMENTS).zip(TABLE..TABLE + SEGMENTS).zip(FIRING) {
+        let function = segment as u32;
+        table
+            .put(place, Marked::Code(function))
+            .map_err(|_| anyhow!("the safe store has no room for the table"))?;
         println!(rt;
-            "  segment {place} is '{name}': function {function} is kept for address {address}"
+            "  segment {place} is '{segment}': function {function} is kept for address {address}"
         )?;
     }
     Ok(())
 }
 
 fn compare(rt: &HostRuntime, table: &Table, memory: &[u32]) -> anyhow::Result<()> {
-    let mut same: u32 = 0;
-    for place in 0..SEGMENTS {
-        let word = word_at(memory, place);
-        let wrong = segment_name(word);
-        let kept = function_of(table.get(place));
-        let name = segment_name(kept);
-        println!(rt;
-            "  segment {place}: memory says {word} ('{wrong}'), the safe store says {kept} ('{name}')"
-        )?;
-        if kept == place + 1 {
-            same = same.saturating_add(1);
-        }
+    for (place, word) in (0..SEGMENTS).zip(memory.iter().skip(TABLE as usize)) {
+        let said = Function(*word);
+        let kept = kept(table, place).unwrap_or(NOTHING_KEPT);
+        println!(rt; "  segment {place}: memory says {said}, the safe store says {kept}")?;
     }
+    let same = (0..SEGMENTS)
+        .zip(FIRING)
+        .filter(|(place, segment)| kept(table, *place) == Some(Function(*segment as u32)))
+        .count();
     println!(rt; "{same} of {SEGMENTS} entries are what they were.")?;
     Ok(())
 }
@@ -90,11 +75,8 @@ fn look_below(rt: &HostRuntime, mut table: Table) -> anyhow::Result<()> {
     println!(rt; "A put behind the table, at place {SEGMENTS}, is refused: {refused}.")?;
     let below = table.into_below();
     let address = TABLE + 1;
-    let kept = function_of(below.get(address));
-    let name = segment_name(kept);
-    println!(rt;
-        "The window is taken apart: the store below holds {kept} ('{name}') at address {address}."
-    )?;
+    let kept = kept(&below, address).unwrap_or(NOTHING_KEPT);
+    println!(rt; "The window is taken apart: the store below holds {kept} at address {address}.")?;
     let slots = below.into_slots().len();
     println!(rt; "The firing is over, and the {slots} slots are given back.")?;
     Ok(())
@@ -103,7 +85,7 @@ fn look_below(rt: &HostRuntime, mut table: Table) -> anyhow::Result<()> {
 fn fire(rt: &HostRuntime) -> anyhow::Result<()> {
     let heap = rt.alloc();
     let mut memory = vec![in heap; 0u32; MEMORY]?;
-    let slots = vec![in heap; Slot::Empty; SLOTS]?;
+    let slots = vec![in heap; None; SLOTS]?;
     let mut table = Window::new(TABLE, SEGMENTS, HashStore::new(slots));
     println!(rt;
         "A firing has {SEGMENTS} segments, and a table of the functions that make them, at address {TABLE}."
@@ -115,9 +97,7 @@ fn fire(rt: &HostRuntime) -> anyhow::Result<()> {
     println!(rt;
         "The panel now writes {FULL_POWER}, the function for full power, over all {MEMORY} words of memory."
     )?;
-    for word in memory.iter_mut() {
-        *word = FULL_POWER;
-    }
+    memory.fill(FULL_POWER);
     compare(rt, &table, memory.as_slice())?;
     look_below(rt, table)
 }

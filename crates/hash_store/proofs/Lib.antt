@@ -1,5 +1,6 @@
+mod Around
 pub mod Counts
-mod Fresh
+mod Empties
 mod Probes
 mod Shifts
 mod Tables

@@ -1,16 +1,14 @@
 //! The hash store: any address stands in any slot, found by linear probing. Deletion shifts entries back, so that a call costs what is held now and not what was.
 #![tactic(auto)]
 
-ghost use Rattle.std.specs.Prelude.{◌≡◌, ℕ, min, length, replicate, None, nat_lt};
-ghost use Rattle.hash_store.specs.Counting.{held_count};
+ghost use Rattle.std.specs.Prelude.{◌≡◌, ℕ, min, true, length, replicate, None, nat_lt};
 ghost use Rattle.hash_store.specs.Hash.{HashDropped, HashPut, hash_entry, hash_held, hash_taken};
-ghost use Rattle.hash_store.specs.Probing.{Reached, Single, count};
-ghost use Rattle.hash_store.specs.Places.{Probed, Tells};
-ghost use Rattle.hash_store.specs.declared.probe.Place.TheVariants.{Held, Vacant};
-ghost use Rattle.hash_store.specs.declared.slot.Slot.TheVariants.{Empty};
+ghost use Rattle.hash_store.specs.Probing.{Sound};
+ghost use Rattle.hash_store.specs.Places.{Fits, Probed, Tells};
+ghost use Rattle.hash_store.specs.declared.probe.Place.TheVariants.{Held};
 ghost use Rattle.stores.specs.Slots.{SlotsKept, counted, slots_chained, slots_same};
 
-use crate::probe::{Place, close_counted, probe, slot_of};
+use crate::probe::{Place, close, probe};
 use crate::slot::Slot;
 use stores::slots::{emptied, first_of};
 use stores::store::{NotTaken, Store};
@@ -18,32 +16,31 @@ use stores::store::{NotTaken, Store};
 mod probe;
 pub mod slot;
 
+// The same slots, each of them empty, as a store may have them.
+fn fresh<V: Copy>(slots: Vec<Slot<V>>) -> Vec<Slot<V>>
+    ensures items { result.items ≡ replicate (length slots.items) None }
+    ensures sound { Sound (counted result.items) }
+{
+    emptied(slots, None)
+}
+
 #[derive(Drop)]
 pub struct HashStore<V: Copy> {
     slots: Vec<Slot<V>>,
-    ghost counts: { held_count (hash_entry slots.items) ≡ count (counted slots.items) },
-    ghost single: { Single (counted slots.items) },
-    ghost reached: { Reached (length (counted slots.items)) (counted slots.items) },
+    ghost sound: { Sound (counted slots.items) },
 }
 
 impl<V: Copy> HashStore<V> {
     // Empties all the slots, also those that don't count.
+    #[tactic(auto, using(crate::proofs::Empties::fresh_lookup, crate::proofs::Empties::fresh_room))]
     pub fn new(slots: Vec<Slot<V>>) -> HashStore<V>
         ensures nothing { (a : ℕ) → hash_entry result.slots.items a ≡ None }
         ensures taken { (a : ℕ) → hash_taken result.slots.items a ≡ nat_lt 0 (min 65536 (length slots.items)) }
-        ensures slots { result.slots.items ≡ replicate (length slots.items) Empty }
+        ensures slots { result.slots.items ≡ replicate (length slots.items) None }
     {
-        HashStore::over(emptied(slots, Slot::Empty))
-    }
-
-    // The store on empty slots.
-    fn over(slots: Vec<Slot<V>>) -> HashStore<V>
-        requires { slots.items ≡ replicate (length slots.items) Empty }
-        ensures nothing { (a : ℕ) → hash_entry result.slots.items a ≡ None }
-        ensures taken { (a : ℕ) → hash_taken result.slots.items a ≡ nat_lt 0 (min 65536 (length slots.items)) }
-        ensures slots { result.slots ≡ slots }
-    {
-        HashStore { slots }
+        HashStore {
+            slots: fresh(slots),
+        }
     }
 
     // Gives back the slots that it was made with.
@@ -58,7 +55,7 @@ impl<V: Copy> HashStore<V> {
     fn ring(&self) -> &[Slot<V>]
         ensures { result.now ≡ counted self.now.slots.items }
     {
-        first_of(self.slots.as_slice())
+        first_of(&self.slots)
     }
 
     fn probe(&self, a: u32) -> Place
@@ -68,30 +65,23 @@ impl<V: Copy> HashStore<V> {
         probe(self.ring(), a)
     }
 
-    // The value in the slot that holds the address.
+    // The value in the slot that holds the address. What a probe found is asked of i and a: a type that keeps it would borrow the slots, which `write` and `remove` change.
     fn value_in(&self, i: usize, a: u32) -> Option<V>
         requires { Probed (counted self.now.slots.items) a (Held i) }
         ensures { result ≡ hash_entry self.now.slots.items a }
     {
-        slot_of(self.ring(), i).holding(a)
+        let (_, v) = self.ring()[i]?;
+        Some(v)
     }
 
-    // Another value into the slot that holds the address.
-    fn replace(&mut self, i: usize, a: u32, v: V)
-        requires { Probed (counted self.old.slots.items) a (Held i) }
+    // An entry into the slot that holds the address, or into an empty one if none holds it.
+    fn write(&mut self, i: usize, a: u32, v: V)
+        requires { Fits (counted self.old.slots.items) a i }
+        ensures taken { hash_taken self.old.slots.items a ≡ true }
         ensures put { HashPut self.old.slots.items self.new.slots.items a v }
         ensures kept { SlotsKept self.old.slots.items self.new.slots.items }
     {
-        self.slots[i] = Slot::Held(a, v);
-    }
-
-    // A value for an address that no slot holds, into an empty slot.
-    fn insert(&mut self, i: usize, a: u32, v: V)
-        requires { Probed (counted self.old.slots.items) a (Vacant i) }
-        ensures put { HashPut self.old.slots.items self.new.slots.items a v }
-        ensures kept { SlotsKept self.old.slots.items self.new.slots.items }
-    {
-        self.slots[i] = Slot::Held(a, v);
+        self.slots[i] = Some((a, v));
     }
 
     // Empties the slot that holds the address.
@@ -100,7 +90,8 @@ impl<V: Copy> HashStore<V> {
         ensures dropped { HashDropped self.old.slots.items self.new.slots.items a }
         ensures kept { SlotsKept self.old.slots.items self.new.slots.items }
     {
-        close_counted(self.slots.as_mut_slice(), i);
+        let n = self.ring().len();
+        close(&mut self.slots[0..n], i);
     }
 }
 
@@ -132,11 +123,10 @@ impl<V: Copy> Store for HashStore<V> {
     }
 
     fn put(&mut self, a: u32, v: V) -> Result<(), NotTaken> {
-        match self.probe(a) {
-            Place::Held(i) => self.replace(i, a, v),
-            Place::Vacant(i) => self.insert(i, a, v),
-            Place::Full => return Err(NotTaken),
-        }
+        let (Place::Held(i) | Place::Vacant(i)) = self.probe(a) else {
+            return Err(NotTaken);
+        };
+        self.write(i, a, v);
         Ok(())
     }
 

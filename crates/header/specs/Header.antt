@@ -1,6 +1,7 @@
 use Rattle.std.specs.Prelude.{◌≡◌, ℕ, ◌+◌, ◌*◌, ◌<◌, ◌≤◌, Bool, true, false, ◌&&◌, List, length, ◌==◌, ◌≢◌, nat_le}
 use Rattle.records.specs.Words.{word_at}
 use Rattle.header.specs.declared.counts.Counts.{Counts}
+use Rattle.header.specs.declared.starts.Starts.{Starts}
 use Rattle.header.specs.declared.fault.HeaderFault.{HeaderFault}
 use Rattle.header.specs.declared.fault.HeaderFault.TheVariants.{Short, Version, Range, Layout}
 
@@ -24,9 +25,25 @@ code_at n = functions_at n + 16 * n.functions
 abbrev pub end_at : Counts → ℕ
 end_at n = code_at n + 16 * n.code
 
+-- the starts of the lists, together
+abbrev pub starts_of : Counts → Starts
+starts_of n = record { types = 60; fields = fields_at n; globals = globals_at n; locals = locals_at n; functions = functions_at n; code = code_at n; end = end_at n }
+
 -- the counts as they stand in an image
 abbrev pub counts_in : List ℕ → Counts
 counts_in s = record { types = word_at s 16; fields = word_at s 24; globals = word_at s 32; locals = word_at s 40; functions = word_at s 48; code = word_at s 56 }
+
+-- no list is longer than a module's lists are, and the three that a module can't do without have records
+pub record Few (n : Counts) : Type 0 where
+  pub some_types : 1 ≤ n.types
+  pub few_types : n.types ≤ 64
+  pub few_fields : n.fields ≤ 256
+  pub few_globals : n.globals ≤ 64
+  pub few_locals : n.locals ≤ 256
+  pub some_functions : 1 ≤ n.functions
+  pub few_functions : n.functions ≤ 64
+  pub some_code : 1 ≤ n.code
+  pub few_code : n.code ≤ 1024
 
 -- the memory size, the depth and the counts are in range
 abbrev pub ranged : ℕ → ℕ → Counts → Bool

@@ -4,3 +4,4 @@
 pub mod counts;
 pub mod fault;
 pub mod header;
+pub mod starts;

@@ -1,17 +1,14 @@
 -- Bytes in hex: two digits for each, the lower-case ones.
-use Rattle.std.specs.Prelude.{ℕ, ◌+◌, ◌-◌, ◌*◌, ◌/◌, ◌%◌, Bool, true, cond, ◌&&◌, ◌||◌, List, [], ◌∷◌, ◌++◌, length, ◌==◌, nat_le, nat_lt}
+use Rattle.std.specs.List.{flat_map, list_all}
+use Rattle.std.specs.Prelude.{ℕ, ◌+◌, ◌-◌, ◌*◌, ◌/◌, ◌%◌, Bool, cond, ◌&&◌, ◌||◌, List, [], ◌∷◌, length, ◌==◌, nat_le, nat_lt}
 
 -- a byte is one of 0 to 9 and a to f
 abbrev pub is_hex : ℕ → Bool
 is_hex b = (nat_le 48 b && nat_le b 57) || (nat_le 97 b && nat_le b 102)
 
-abbrev pub all_hex : List ℕ → Bool
-all_hex [] = true
-all_hex (b ∷ bs) = is_hex b && all_hex bs
-
 -- A word is bytes in hex.
 abbrev pub hexed : List ℕ → Bool
-hexed w = all_hex w && length w % 2 == 0
+hexed w = list_all is_hex w && length w % 2 == 0
 
 -- what a digit stands for
 unfoldable pub nibble_of : ℕ → ℕ
@@ -33,5 +30,4 @@ spelled b = glyph_of (b / 16) ∷ glyph_of (b % 16) ∷ []
 
 -- the digits of bytes
 abbrev pub hex_of : List ℕ → List ℕ
-hex_of [] = []
-hex_of (b ∷ bs) = spelled b ++ hex_of bs
+hex_of bs = flat_map spelled bs

@@ -1,28 +1,20 @@
 // Bytes in hex: two digits for each, the lower-case ones.
 ghost use Rattle.std.specs.Prelude.{◌≡◌, ◌<◌, ◌++◌, IfOk, string_bytes, OnOk};
-ghost use Rattle.hex_bytes.specs.Hex.{all_hex, bytes_of, glyph_of, hex_of, hexed, is_hex, nibble_of, spelled};
+ghost use Rattle.std.specs.List.{list_all};
+ghost use Rattle.hex_bytes.specs.Hex.{bytes_of, glyph_of, hex_of, hexed, is_hex, nibble_of, spelled};
 
 use std::alloc::{AllocError, Global};
 
 fn is_digit(b: u8) -> bool
     ensures { result ≡ is_hex b }
 {
-    match b {
-        b'0'..=b'9' => true,
-        b'a'..=b'f' => true,
-        _ => false,
-    }
+    matches!(b, b'0'..=b'9' | b'a'..=b'f')
 }
 
 fn all_digits(word: &[u8]) -> bool
-    ensures { result ≡ all_hex word.now }
+    ensures { result ≡ list_all is_hex word.now }
 {
-    for b in word {
-        if !is_digit(*b) {
-            return false;
-        }
-    }
-    true
+    word.iter().all(|b| is_digit(*b))
 }
 
 // Whether the word is bytes in hex.
@@ -32,14 +24,16 @@ pub fn is_hex(word: &[u8]) -> bool
     all_digits(word) && word.len() % 2 == 0
 }
 
+// Not `to_digit`, which answers nothing for what is no digit: every byte has a value here.
+#[tactic(auto, unfolding(crate::specs::Hex::nibble_of))]
 fn nibble(digit: u8) -> u8
     ensures value { result ≡ nibble_of digit }
     ensures small { result < 16 }
 {
     if digit < b'a' {
-        digit.saturating_sub(48) % 16
+        digit.saturating_sub(b'0') % 16
     } else {
-        (digit - 87) % 16
+        (digit - b'a' + 10) % 16
     }
 }
 
@@ -47,25 +41,27 @@ fn nibble(digit: u8) -> u8
 pub fn bytes_of(heap: Global, digits: &[u8]) -> Result<Vec<u8>, AllocError>
     ensures { IfOk result (λ v. v.items ≡ bytes_of digits.now) }
 {
-    let mut bytes = Vec::new(heap);
-    for i in 0..digits.len() / 2 {
-        bytes.push(16 * nibble(digits[2 * i]) + nibble(digits[2 * i + 1]))?;
-    }
-    Ok(bytes)
+    let (pairs, _) = digits.as_chunks::<2>();
+    pairs
+        .iter()
+        .map(|[high, low]| 16 * nibble(*high) + nibble(*low))
+        .collect(heap)
 }
 
+#[tactic(auto, unfolding(crate::specs::Hex::glyph_of))]
 fn glyph(n: u8) -> char
     requires { n < 16 }
     ensures value { result ≡ glyph_of n }
     ensures ascii { result < 128 }
 {
     if n < 10 {
-        (48 + n) as char
+        (b'0' + n) as char
     } else {
-        (87 + n) as char
+        (b'a' + n - 10) as char
     }
 }
 
+// Not by `write!`, whose error says no more that memory was wanted.
 fn push_byte(text: &mut String, b: u8) -> Result<(), AllocError>
     ensures { OnOk result (string_bytes text.new ≡ string_bytes text.old ++ spelled b) }
 {

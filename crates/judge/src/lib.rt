@@ -8,7 +8,7 @@ ghost use Rattle.judge.specs.Judged.{Judged};
 
 use module::reading::judge;
 
-// 0, or the number of the image's first fault.
+// 0, or the number of the image's first fault: C is handed a number, and no `Result`.
 pub fn k4_judge(image: &[u8]) -> u32
     ensures answer { Judged image.now result }
     ensures exact { (c : Content) → Follows image.now c → result ≡ 0 }

@@ -3,7 +3,7 @@
 
 use anyhow::anyhow;
 use replay::session::Session;
-use script::text::split_line;
+use script::text::Lines;
 use std::env;
 use std::io::Read;
 use std::process::ExitCode;
@@ -12,17 +12,13 @@ const USAGE: &str =
     "usage: k4 replay < SCRIPT\n\nreplay  does the calls of a script, line by line, and writes what they answered\n";
 
 // Does the script from standard input and writes its transcript.
+// As `k4_images` does it over a desk. A public call for both would take a closure, and so ask for its `pre`, as no public call here may.
 fn replay(rt: &HostRuntime) -> anyhow::Result<()> {
     let heap = rt.alloc();
     let mut script = Vec::new(heap);
     rt.stdin().read_to_end(&mut script)?;
     let mut session = Session::new();
-    let mut rest = script.as_slice();
-    let mut number: u64 = 0;
-    while !rest.is_empty() {
-        let (line, more) = split_line(rest);
-        rest = more;
-        number = number.saturating_add(1);
+    for (number, line) in (1u64..).zip(Lines::of(&script)) {
         let reply = session.reply(heap, number, line)?;
         rt.print(reply)?;
     }
@@ -32,22 +28,18 @@ fn replay(rt: &HostRuntime) -> anyhow::Result<()> {
 fn run(rt: &HostRuntime) -> anyhow::Result<()> {
     let mut words = env::args(rt)?;
     let _program = words.next();
-    match words.next() {
-        Some(word) => {
-            if word.as_str() == "replay" {
-                replay(rt)
-            } else {
-                rt.print(USAGE)?;
-                Err(anyhow!("the first word names no command"))
-            }
-        }
-        None => {
-            rt.print(USAGE)?;
-            Ok(())
-        }
+    let Some(word) = words.next() else {
+        rt.print(USAGE)?;
+        return Ok(());
+    };
+    if word.as_str() == "replay" {
+        return replay(rt);
     }
+    rt.print(USAGE)?;
+    Err(anyhow!("the first word names no command"))
 }
 
+// In both tools, as each has a `run` of its own.
 fn main(rt: HostRuntime) -> ExitCode {
     match run(&rt) {
         Ok(()) => ExitCode::SUCCESS,

@@ -1,7 +1,6 @@
 // `k4 judge FILE`: whether an image is accepted, and if not, why.
 use anyhow::anyhow;
 use module::reading::judge;
-use showing::refusal::Told;
 use std::fs;
 
 pub(crate) fn judge_file(rt: &HostRuntime, path: &str) -> anyhow::Result<()> {
@@ -12,8 +11,7 @@ pub(crate) fn judge_file(rt: &HostRuntime, path: &str) -> anyhow::Result<()> {
             Ok(())
         }
         Err(fault) => {
-            let told = Told { fault };
-            println!(rt; "{told}")?;
+            println!(rt; "{fault}")?;
             Err(anyhow!("the image is refused"))
         }
     }

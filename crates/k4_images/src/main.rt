@@ -7,7 +7,7 @@ mod show;
 use anyhow::anyhow;
 use desk::desk::Desk;
 use judge::judge_file;
-use script::text::split_line;
+use script::text::Lines;
 use show::show_file;
 use std::env;
 use std::io::Read;
@@ -17,17 +17,13 @@ const USAGE: &str =
     "usage: k4 replay < SCRIPT\n       k4 judge FILE\n       k4 show FILE\n\nreplay  does the calls of a script, line by line, and writes what they answered\njudge   says whether the module image in FILE is accepted, and if not, why\nshow    writes what the module says\n";
 
 // Does the script from standard input and writes its transcript.
+// As `k4` does it over a session. A public call for both would take a closure, and so ask for its `pre`, as no public call here may.
 fn replay(rt: &HostRuntime) -> anyhow::Result<()> {
     let heap = rt.alloc();
     let mut script = Vec::new(heap);
     rt.stdin().read_to_end(&mut script)?;
     let mut desk = Desk::new();
-    let mut rest = script.as_slice();
-    let mut number: u64 = 0;
-    while !rest.is_empty() {
-        let (line, more) = split_line(rest);
-        rest = more;
-        number = number.saturating_add(1);
+    for (number, line) in (1u64..).zip(Lines::of(&script)) {
         let told = desk.reply(heap, number, line)?;
         rt.print(told)?;
     }
@@ -36,13 +32,13 @@ fn replay(rt: &HostRuntime) -> anyhow::Result<()> {
 
 // A command on the file that the next word names.
 fn on_file(rt: &HostRuntime, command: &str, path: &str) -> anyhow::Result<()> {
-    if command == "judge" {
-        judge_file(rt, path)
-    } else if command == "show" {
-        show_file(rt, path)
-    } else {
-        rt.print(USAGE)?;
-        Err(anyhow!("the first word names no command"))
+    match command {
+        "judge" => judge_file(rt, path),
+        "show" => show_file(rt, path),
+        _ => {
+            rt.print(USAGE)?;
+            Err(anyhow!("the first word names no command"))
+        }
     }
 }
 
@@ -56,15 +52,14 @@ fn run(rt: &HostRuntime) -> anyhow::Result<()> {
     if command.as_str() == "replay" {
         return replay(rt);
     }
-    match words.next() {
-        Some(path) => on_file(rt, command.as_str(), path.as_str()),
-        None => {
-            rt.print(USAGE)?;
-            Err(anyhow!("a word is missing, or the first word names no command"))
-        }
-    }
+    let Some(path) = words.next() else {
+        rt.print(USAGE)?;
+        return Err(anyhow!("a word is missing, or the first word names no command"));
+    };
+    on_file(rt, command.as_str(), path.as_str())
 }
 
+// In both tools, as each has a `run` of its own.
 fn main(rt: HostRuntime) -> ExitCode {
     match run(&rt) {
         Ok(()) => ExitCode::SUCCESS,

@@ -3,11 +3,10 @@ use crate::kiln::KILN;
 use anyhow::anyhow;
 use module::module::Module;
 use module::reading::judge;
-use showing::refusal::Told;
-use showing::words::KindWords;
+use std::iter::successors;
 
-// No chain is longer than there are types.
-const LONGEST: u32 = 64;
+// No chain has more links than there are types, and one type more than links.
+const LONGEST: usize = 65;
 
 // The global that is the table of segments.
 const TABLE: u32 = 1;
@@ -15,10 +14,11 @@ const TABLE: u32 = 1;
 // The byte that says what type 2 points at.
 const TYPE_2_TO: usize = 88;
 
+// `rt` and the module go to each function that prints: a struct of the two would only add `self.` to both.
+
 fn tell_type(rt: &HostRuntime, module: &Module, t: u32) -> anyhow::Result<()> {
     if let Some(kind) = module.lists().types.get(t as usize) {
-        let words = KindWords { kind: *kind };
-        print!(rt; "type {t}, {words}")?;
+        print!(rt; "type {t}, {kind}")?;
     }
     Ok(())
 }
@@ -26,17 +26,12 @@ fn tell_type(rt: &HostRuntime, module: &Module, t: u32) -> anyhow::Result<()> {
 // The chain of links that makes a type sensitive.
 fn tell_chain(rt: &HostRuntime, module: &Module, first: u32) -> anyhow::Result<()> {
     rt.print("  ")?;
-    tell_type(rt, module, first)?;
-    let mut t = first;
-    for _ in 0..LONGEST {
-        match module.sensitive_link(t) {
-            Some(next) => {
-                rt.print("; ")?;
-                tell_type(rt, module, next)?;
-                t = next;
-            }
-            None => break,
+    let chain = successors(Some(first), |t| module.sensitive_link(*t));
+    for (place, t) in chain.take(LONGEST).enumerate() {
+        if place > 0 {
+            rt.print("; ")?;
         }
+        tell_type(rt, module, t)?;
     }
     rt.print("\n")?;
     Ok(())
@@ -44,12 +39,10 @@ fn tell_chain(rt: &HostRuntime, module: &Module, first: u32) -> anyhow::Result<(
 
 fn tell_sensitive(rt: &HostRuntime, module: &Module) -> anyhow::Result<()> {
     rt.print("These types are sensitive, each by a chain of links to void or function:\n")?;
-    let mut t: u32 = 0;
-    for _ in module.lists().types {
-        if module.is_sensitive(t) {
-            tell_chain(rt, module, t)?;
-        }
-        t = t.saturating_add(1);
+    // Over the numbers of the types, since these are what is asked and told.
+    let types = 0..module.lists().types.len() as u32;
+    for t in types.filter(|t| module.is_sensitive(*t)) {
+        tell_chain(rt, module, t)?;
     }
     Ok(())
 }
@@ -60,8 +53,7 @@ fn tell_bent(rt: &HostRuntime) -> anyhow::Result<()> {
     match judge(&bent) {
         Ok(()) => rt.print("A bent image is accepted.\n")?,
         Err(fault) => {
-            let told = Told { fault };
-            println!(rt; "The same image with type 2 pointing at type 9 is refused, {told}.")?;
+            println!(rt; "The same image with type 2 pointing at type 9 is refused, {fault}.")?;
         }
     }
     Ok(())

@@ -1,6 +1,8 @@
-use Rattle.std.proofs.Common.{◌≡◌, ℕ, zero, suc, Bool, true, false, List, Some, None, Option, sym, refl, ap, ◌∙◌, subst, true≢false, arith}
+use Rattle.std.proofs.Common.{◌≡◌, ℕ, Bool, true, false, List, Some, None, Option, sym, refl, ap, ◌∙◌, subst, true≢false, arith}
 use Rattle.records.specs.Words.{word_at}
 use Rattle.records.specs.declared.record.RecordFault.{RecordFault}
+use Rattle.records.specs.declared.list.ListOf.{ListOf}
+use Rattle.records.proofs.Lists.{each_list}
 use Rattle.records.proofs.Runs.{ok_same}
 use Rattle.content.specs.declared.kind.Kind.{Kind}
 use Rattle.content.specs.declared.typed.Typed.{Typed}
@@ -16,7 +18,6 @@ use Rattle.rules.specs.declared.rule.Rule.{Rule}
 use Rattle.rules.specs.declared.rule.Rule.TheVariants.{Names, Types}
 use Rattle.rules.specs.declared.fault.RuleFault.TheVariants.{Meaningless, Unnamed, Mistyped}
 use Rattle.rules.specs.Judging.{Kept, FirstBroken}
-use Rattle.rules.proofs.Firsts.{some_none}
 use Rattle.rules.proofs.Keeps.{kept_unbroken}
 use Rattle.tables.specs.Tables.{Over}
 use Rattle.module.specs.declared.fault.ModuleFault.{ModuleFault}
@@ -41,17 +42,18 @@ same_content s c d p q =
     (ok_same _ _ (sym p.listed.code_is ∙ q.listed.code_is))
 
 -- where the lists are read, every record means something
-all_mean : (s : List ℕ) (n : Counts) (c : Content) → Listed s n c → (l : ℕ) → meaningless s n l ≡ None
-all_mean s n c p zero = ap stopped p.types_are
-all_mean s n c p (suc zero) = ap stopped p.fields_are
-all_mean s n c p (suc (suc zero)) = ap stopped p.globals_are
-all_mean s n c p (suc (suc (suc zero))) = ap stopped p.locals_are
-all_mean s n c p (suc (suc (suc (suc zero)))) = ap stopped p.functions_are
-all_mean s n c p (suc (suc (suc (suc (suc zero))))) = ap stopped p.code_is
-all_mean s n c p (suc (suc (suc (suc (suc (suc l)))))) = refl
+all_mean : (s : List ℕ) (n : Counts) (c : Content) → Listed s n c → (l : ListOf) → meaningless s n l ≡ None
+all_mean s n c p =
+    each_list (λ l. meaningless s n l ≡ None)
+    (ap stopped p.types_are)
+    (ap stopped p.fields_are)
+    (ap stopped p.globals_are)
+    (ap stopped p.locals_are)
+    (ap stopped p.functions_are)
+    (ap stopped p.code_is)
 
 unlike : (k : ℕ) (o : Option ℕ) → o ≡ Some k → o ≡ None → ⊥
-unlike k o a b = some_none k (sym a ∙ b)
+unlike k o a b = grind arith
 
 differ : {b : Bool} → b ≡ false → b ≡ true → ⊥
 differ {b} p q = true≢false (sym q ∙ p)

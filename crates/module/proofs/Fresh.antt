@@ -1,7 +1,8 @@
-use Rattle.std.proofs.Common.{ℕ, zero, suc, List, [], ◌∷◌, refl, arith}
+use Rattle.std.proofs.Common.{◌≡◌, ℕ, List, [], ◌∷◌, None, refl, arith}
 use Rattle.records.specs.Words.{spell}
+use Rattle.records.proofs.Lists.{each_list}
 use Rattle.rules.specs.declared.rule.Rule.TheVariants.{Names, Types}
-use Rattle.rules.specs.Judging.{Unbroken}
+use Rattle.rules.specs.Judging.{Unbroken, broken}
 use Rattle.rules.proofs.Keeps.{unbroken_kept}
 use Rattle.module.specs.Follows.{Follows}
 use Rattle.module.specs.Modules.{fresh}
@@ -18,22 +19,10 @@ fresh_bytes =
     ∷ [])
 
 names : Unbroken Names fresh
-names zero = refl
-names (suc zero) = refl
-names (suc (suc zero)) = refl
-names (suc (suc (suc zero))) = refl
-names (suc (suc (suc (suc zero)))) = refl
-names (suc (suc (suc (suc (suc zero))))) = refl
-names (suc (suc (suc (suc (suc (suc l)))))) = refl
+names = each_list (λ l. broken Names fresh l ≡ None) refl refl refl refl refl refl
 
 types : Unbroken Types fresh
-types zero = refl
-types (suc zero) = refl
-types (suc (suc zero)) = refl
-types (suc (suc (suc zero))) = refl
-types (suc (suc (suc (suc zero)))) = refl
-types (suc (suc (suc (suc (suc zero))))) = refl
-types (suc (suc (suc (suc (suc (suc l)))))) = refl
+types = each_list (λ l. broken Types fresh l ≡ None) refl refl refl refl refl refl
 
 -- the module before any reading has an image that follows the rules
 pub fresh_follows : Follows fresh_bytes fresh

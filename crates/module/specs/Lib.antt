@@ -1,3 +1,4 @@
 pub mod Follows
 pub mod Refusals
 pub mod Modules
+pub mod Texts

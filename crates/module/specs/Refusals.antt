@@ -1,4 +1,4 @@
-use Rattle.std.specs.Prelude.{ℕ, List}
+use Rattle.std.specs.Prelude.{ℕ, List, Some, None}
 use Rattle.records.specs.Words.{word_at}
 use Rattle.header.specs.Header.{Headed, HeaderBad, counts_in}
 use Rattle.parts.specs.Content.{Content}
@@ -13,16 +13,20 @@ use Rattle.module.specs.declared.fault.ModuleFault.{ModuleFault}
 use Rattle.module.specs.declared.fault.ModuleFault.TheVariants.{Header, Rule, Globals}
 use Rattle.module.specs.declared.fault.Refusal.{Refusal}
 
--- the number of a fault, and the list and record that it names
+-- the number of a fault, and the record that it names
 abbrev pub refusal_of : ModuleFault → Refusal
-refusal_of (Header Short) = record { number = 1; list = 0; «record» = 0 }
-refusal_of (Header Version) = record { number = 2; list = 0; «record» = 0 }
-refusal_of (Header Range) = record { number = 3; list = 0; «record» = 0 }
-refusal_of (Header Layout) = record { number = 4; list = 0; «record» = 0 }
-refusal_of (Rule (Meaningless f)) = record { number = 5; list = f.list; «record» = f.«record» }
-refusal_of (Rule (Unnamed f)) = record { number = 6; list = f.list; «record» = f.«record» }
-refusal_of (Rule (Mistyped f)) = record { number = 7; list = f.list; «record» = f.«record» }
-refusal_of Globals = record { number = 8; list = 0; «record» = 0 }
+refusal_of (Header Short) = record { number = 1; place = None }
+refusal_of (Header Version) = record { number = 2; place = None }
+refusal_of (Header Range) = record { number = 3; place = None }
+refusal_of (Header Layout) = record { number = 4; place = None }
+refusal_of (Rule (Meaningless f)) = record { number = 5; place = Some f }
+refusal_of (Rule (Unnamed f)) = record { number = 6; place = Some f }
+refusal_of (Rule (Mistyped f)) = record { number = 7; place = Some f }
+refusal_of Globals = record { number = 8; place = None }
+
+-- bytes that an image doesn't fit into
+abbrev pub too_short : Refusal
+too_short = record { number = 9; place = None }
 
 -- the image s is laid out right and its records say c, which keeps the rules, but for the room of its globals
 pub record Overfull (s : List ℕ) : Type 0 where

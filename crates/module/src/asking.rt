@@ -7,7 +7,7 @@ ghost use Rattle.module.specs.Modules.{said, frames, NoLink, SensitiveLink};
 
 use crate::module::Module;
 use parts::lists::Lists;
-use sensitivity::next_link;
+use sensitivity::{marked, next_link};
 use tables::places::Span;
 
 impl Module {
@@ -18,7 +18,7 @@ impl Module {
         self.parts.lists()
     }
 
-    // How many frames may stand.
+    // How many frames may stand. An image writes 0 for 16, and a module keeps what its image says.
     pub fn frames(&self) -> u32
         ensures { result ≡ frames (said self.now).depth }
     {
@@ -31,11 +31,7 @@ impl Module {
     pub fn is_sensitive(&self, t: u32) -> bool
         ensures { Decides result (Sensitive (said self.now).types (said self.now).fields t) }
     {
-        if t < 64 {
-            self.sensitive[t as usize]
-        } else {
-            false
-        }
+        marked(&self.sensitive, t)
     }
 
     // Where the heap begins: behind the globals.
@@ -49,6 +45,7 @@ impl Module {
     pub fn span(&self, global: u32) -> Option<Span>
         ensures { MatchOption result (length (said self.now).globals ≤ global) (λ s. (s.low ≡ words (said self.now).types (take global (said self.now).globals)) × (s.high ≡ words (said self.now).types (take (global + 1) (said self.now).globals))) }
     {
+        // Not by `get` on the spans: there are more of them than globals.
         let g = global as usize;
         if g < self.lists().globals.len() {
             Some(self.places.spans[g])

@@ -8,6 +8,7 @@ use parts::parts::Parts;
 use tables::layout::Local;
 use tables::places::Places;
 
+// The marks, layouts and places are arrays beside the lists, as long as these may be: the board has no heap.
 #[derive(Clone, Copy)]
 pub struct Module {
     pub(crate) parts: Parts,

@@ -30,10 +30,8 @@ fn check_image(image: &[u8]) -> Result<Checked, ModuleFault>
 {
     let header = Header::read(image)?;
     let parts = read_parts(header, image)?;
-    match places_of(&parts) {
-        Some(places) => Ok(Checked { parts, places }),
-        None => Err(ModuleFault::Globals),
-    }
+    let places = places_of(&parts).ok_or(ModuleFault::Globals)?;
+    Ok(Checked { parts, places })
 }
 
 fn read_module(image: &[u8]) -> Result<Module, ModuleFault>
@@ -55,10 +53,7 @@ pub fn judge(image: &[u8]) -> Result<(), ModuleFault>
     ensures answer { MatchResult result (λ _. Accepted image.now) (λ f. Refused image.now f) }
     ensures exact { (c : Content) → Follows image.now c → is_ok result ≡ true }
 {
-    match check_image(image) {
-        Ok(_) => Ok(()),
-        Err(fault) => Err(fault),
-    }
+    check_image(image).map(|_checked| ())
 }
 
 // Version, memory size and depth; the starts and counts of the lists; a number; a function; a return.

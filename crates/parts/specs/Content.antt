@@ -1,9 +1,10 @@
-use Rattle.std.specs.Prelude.{ℕ, List, take}
+use Rattle.std.specs.Prelude.{ℕ, List, length, take}
 use Rattle.content.specs.declared.kind.Kind.{Kind}
 use Rattle.content.specs.declared.typed.Typed.{Typed}
 use Rattle.content.specs.declared.global.Global.{Global}
 use Rattle.content.specs.declared.function.Function.{Function}
 use Rattle.content.specs.declared.instruction.Instruction.{Instruction}
+use Rattle.header.specs.declared.counts.Counts.{Counts}
 use Rattle.parts.specs.declared.lists.Lists.{Lists}
 use Rattle.parts.specs.declared.parts.Parts.{Parts}
 
@@ -44,3 +45,7 @@ content p =
       functions = take n.functions p.functions;
       code = take n.code p.code;
     }
+
+-- how many records each list has
+abbrev pub lengths : Content → Counts
+lengths c = record { types = length c.types; fields = length c.fields; globals = length c.globals; locals = length c.locals; functions = length c.functions; code = length c.code }

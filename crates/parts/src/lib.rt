@@ -3,3 +3,4 @@
 
 pub mod lists;
 pub mod parts;
+mod reading;

@@ -1,2 +1,4 @@
-pub mod Spelling
+mod Fronts
 pub mod Runs
+pub mod Lists
+pub mod Spelling

@@ -1,22 +1,11 @@
-use Rattle.std.proofs.Common.{◌≡◌, ℕ, zero, suc, ◌+◌, ◌*◌, ◌/◌, ◌%◌, ◌<◌, ◌≤◌, List, [], ◌∷◌, ◌++◌, length, get_or, take, drop, sym, refl, ap, ◌∙◌, arith, take_all, drop-drop}
+use Rattle.std.proofs.Common.{◌≡◌, ℕ, zero, suc, ◌+◌, ◌*◌, ◌<◌, ◌≤◌, List, [], ◌∷◌, ◌++◌, length, get_or, take, drop, sym, refl, ap, ◌∙◌, arith, rules, drop-drop}
 use Rattle.std.proofs.lemmas.List.{drop_more, take-append-drop, append_assoc}
-use Rattle.records.specs.Words.{word_at, bytes_of, spell}
+use Rattle.std.proofs.lemmas.Nat.{le_bytes_4}
+use Rattle.records.specs.Words.{word_at, bytes_of, spell, words_from}
 
 -- the bytes of a word that is made of four bytes
 pub word_bytes : (a b c d : ℕ) → a < 256 → b < 256 → c < 256 → d < 256 → bytes_of (a + b * 256 + c * 65536 + d * 16777216) ≡ a ∷ b ∷ c ∷ d ∷ []
-word_bytes a b c d ha hb hc hd =
-    let w = a + b * 256 + c * 65536 + d * 16777216 in
-    let ea : w % 256 ≡ a = omega arith in
-    let qb : w / 256 ≡ b + (c * 256 + d * 65536) = omega arith in
-    let qc : w / 65536 ≡ c + d * 256 = omega arith in
-    let qd : w / 16777216 ≡ d = omega arith in
-    let rb : (b + (c * 256 + d * 65536)) % 256 ≡ b = omega arith in
-    let rc : (c + d * 256) % 256 ≡ c = omega arith in
-    let rd : d % 256 ≡ d = omega arith in
-    let eb : w / 256 % 256 ≡ b = ap (λ t. t % 256) qb ∙ rb in
-    let ec : w / 65536 % 256 ≡ c = ap (λ t. t % 256) qc ∙ rc in
-    let ed : w / 16777216 % 256 ≡ d = ap (λ t. t % 256) qd ∙ rd in
-    cc
+word_bytes a b c d ha hb hc hd = le_bytes_4 (a ∷ b ∷ c ∷ d ∷ []) _ refl (search rules) (omega arith)
 
 -- the four bytes from byte i on
 pub four_there : (s : List ℕ) (i : ℕ) → i + 4 ≤ length s → take 4 (drop i s) ≡ get_or s i 0 ∷ get_or s (i + 1) 0 ∷ get_or s (i + 2) 0 ∷ get_or s (i + 3) 0 ∷ []
@@ -33,19 +22,9 @@ four_there s i h =
 abbrev pub Bytes : List ℕ → Type 0
 Bytes s = (i : ℕ) → get_or s i 0 < 256
 
-pub take_add : {X : Type 0} (m n : ℕ) (xs : List X) → take (m + n) xs ≡ take m xs ++ take n (drop m xs)
-take_add zero n xs = let e : zero + n ≡ n = omega arith in rw e refl
-take_add (suc m) n [] = let e : suc m + n ≡ suc (m + n) = omega arith in rw e (sym (take_all n [] (omega arith)))
-take_add (suc m) n (x ∷ xs) = let e : suc m + n ≡ suc (m + n) = omega arith in rw e (ap (λ t. x ∷ t) (take_add m n xs))
-
 -- the bytes of the word at byte i
 pub word_there : (s : List ℕ) (i : ℕ) → Bytes s → i + 4 ≤ length s → take 4 (drop i s) ≡ bytes_of (word_at s i)
 word_there s i t h = four_there s i h ∙ sym (word_bytes _ _ _ _ (t i) (t (i + 1)) (t (i + 2)) (t (i + 3)))
-
--- the first n words from byte i on
-abbrev pub words_from : List ℕ → ℕ → ℕ → List ℕ
-words_from s i zero = []
-words_from s i (suc n) = word_at s i ∷ words_from s (i + 4) n
 
 -- the bytes from byte i on are those of the words there, and the rest
 pub spell_from : (n : ℕ) (s : List ℕ) (i : ℕ) → Bytes s → i + 4 * n ≤ length s → drop i s ≡ spell (words_from s i n) ++ drop (i + 4 * n) s

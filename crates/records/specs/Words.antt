@@ -1,4 +1,4 @@
-use Rattle.std.specs.Prelude.{ℕ, ◌+◌, ◌*◌, ◌/◌, ◌%◌, List, [], ◌∷◌, slice_index}
+use Rattle.std.specs.Prelude.{ℕ, zero, suc, ◌+◌, ◌*◌, ◌/◌, ◌%◌, List, [], ◌∷◌, slice_index}
 use Rattle.std.specs.List.{flat_map}
 
 -- the word at byte i, lowest byte first; bytes behind the end count as 0
@@ -13,6 +13,7 @@ bytes_of w = (w % 256) ∷ (w / 256 % 256) ∷ (w / 65536 % 256) ∷ (w / 167772
 abbrev pub spell : List ℕ → List ℕ
 spell ws = flat_map bytes_of ws
 
--- the four words at the front: a record has at most four
-abbrev pub front_words : List ℕ → List ℕ
-front_words s = word_at s 0 ∷ word_at s 4 ∷ word_at s 8 ∷ word_at s 12 ∷ []
+-- the n words from byte i on
+abbrev pub words_from : List ℕ → ℕ → ℕ → List ℕ
+words_from s i zero = []
+words_from s i (suc n) = word_at s i ∷ words_from s (i + 4) n

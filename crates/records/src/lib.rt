@@ -1,6 +1,7 @@
 //! Words of four bytes and records of words: one reading for every kind of record.
 #![tactic(auto)]
 
+pub mod list;
 pub mod reading;
 pub mod record;
 pub mod word;

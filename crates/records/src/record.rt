@@ -1,35 +1,43 @@
 // What a record's words mean, said once for reading and for writing.
-ghost use Rattle.std.specs.Prelude.{◌≡◌, ℕ, ◌≤◌, List, length, take, Some, Option};
+ghost use Rattle.std.specs.Prelude.{◌≡◌, ℕ, ◌≤◌, List, length, Some, Option};
+ghost use Rattle.records.specs.Lists.{place_text};
 
-// A record that means nothing: the list's number and the record's place in it.
-#[derive(Clone, Copy, PartialEq, Eq)]
+use crate::list::ListOf;
+use std::fmt;
+
+// The place of a record that is wrong: its list, and the record's number there.
+#[derive(Clone, Copy, PartialEq, Eq, Debug)]
 pub struct RecordFault {
-    pub list: u32,
+    pub list: ListOf,
     pub record: usize,
 }
 
-pub trait Record: Copy {
-    // How many words a record has.
-    ghost width: { ℕ };
+impl fmt::Display for RecordFault {
+    ghost output = { λ f. Some (place_text f) };
 
-    // What words mean; those behind the width don't count.
+    fn fmt<W: fmt::Write>(&self, f: &mut fmt::Formatter<W>) -> fmt::Result {
+        let RecordFault { list, record } = *self;
+        write!(f, "{list}, record {record}")
+    }
+}
+
+// A record that takes N words of an image.
+pub trait Record<const N: usize>: Copy {
+    // What N words mean.
     ghost meant: { List ℕ → Option Self };
 
     // A record's words.
     ghost spelt: { Self → List ℕ };
 
-    fn words() -> usize
-        ensures { result ≡ width };
+    fn read(words: &[u32; N]) -> Option<Self>
+        ensures { result ≡ meant words.now };
 
-    fn read(words: [u32; 4]) -> Option<Self>
-        ensures { result ≡ meant words };
+    fn write(self) -> [u32; N]
+        ensures { result ≡ spelt self };
 
-    fn write(self) -> [u32; 4]
-        ensures { take width result ≡ spelt self };
+    ghost narrow: { N ≤ 4 };
 
-    ghost narrow: { width ≤ 4 };
+    ghost long: { (r : Self) → length (spelt r) ≡ N };
 
-    ghost long: { (r : Self) → length (spelt r) ≡ width };
-
-    ghost faithful: { (ws : List ℕ) (r : Self) → length ws ≡ 4 → meant ws ≡ Some r → spelt r ≡ take width ws };
+    ghost faithful: { (ws : List ℕ) (r : Self) → length ws ≡ N → meant ws ≡ Some r → spelt r ≡ ws };
 }

@@ -1,54 +1,30 @@
 // Words out of bytes, lowest byte first.
-ghost use Rattle.std.specs.Prelude.{◌≡◌, drop, slice_index};
-ghost use Rattle.records.specs.Words.{word_at, front_words};
+ghost use Rattle.std.specs.Prelude.{◌≡◌, ◌≤◌, drop};
+ghost use Rattle.records.specs.Words.{word_at, words_from};
 
-// The byte at `at`, 0 behind the end.
-fn byte_at(bytes: &[u8], at: usize) -> u8
-    ensures { result ≡ slice_index bytes.now at }
+// The bytes from `n` on.
+pub fn after(bytes: &[u8], n: usize) -> &[u8]
+    ensures { result.now ≡ drop n bytes.now }
 {
-    if at < bytes.len() { bytes[at] } else { 0 }
-}
-
-// The word whose last bytes may lie behind the end.
-fn cut_word(bytes: &[u8], at: usize) -> u32
-    ensures { result ≡ word_at bytes.now at }
-{
-    if at >= bytes.len() {
-        return 0;
-    }
-    u32::from_le_bytes([
-        byte_at(bytes, at),
-        byte_at(bytes, at + 1),
-        byte_at(bytes, at + 2),
-        byte_at(bytes, at + 3),
-    ])
+    bytes.get(n..).unwrap_or(&[])
 }
 
 // The word at byte `at`; bytes behind the end count as 0.
 pub fn word_at(bytes: &[u8], at: usize) -> u32
     ensures { result ≡ word_at bytes.now at }
 {
-    if bytes.len() < 4 || at > bytes.len() - 4 {
-        return cut_word(bytes, at);
+    let rest = after(bytes, at);
+    u32::from_le_bytes([0, 1, 2, 3].map(|k| rest.get(k).copied().unwrap_or(0)))
+}
+
+// The words at the front. Not by `from_fn`, which says of an array of a const parameter only that some call gave each item.
+pub(crate) fn front_words<const N: usize>(bytes: &[u8]) -> [u32; N]
+    requires { N ≤ 4 }
+    ensures { result ≡ words_from bytes.now 0 N }
+{
+    let mut words = [0; N];
+    for (k, word) in words.iter_mut().enumerate() {
+        *word = word_at(bytes, 4 * k);
     }
-    u32::from_le_bytes([bytes[at], bytes[at + 1], bytes[at + 2], bytes[at + 3]])
-}
-
-// The four words at the front.
-pub(crate) fn front_words(bytes: &[u8]) -> [u32; 4]
-    ensures { result ≡ front_words bytes.now }
-{
-    [
-        word_at(bytes, 0),
-        word_at(bytes, 4),
-        word_at(bytes, 8),
-        word_at(bytes, 12),
-    ]
-}
-
-// The bytes from `n` on.
-pub fn after(bytes: &[u8], n: usize) -> &[u8]
-    ensures { result.now ≡ drop n bytes.now }
-{
-    if n < bytes.len() { &bytes[n..] } else { &[] }
+    words
 }

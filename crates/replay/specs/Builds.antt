@@ -4,7 +4,6 @@ use Rattle.array_store.specs.declared.ArrayStore.{ArrayStore}
 use Rattle.replay.specs.declared.either.Either.{Either}
 use Rattle.replay.specs.declared.either.Either.TheVariants.{First, Second}
 use Rattle.hash_store.specs.declared.HashStore.{HashStore}
-use Rattle.hash_store.specs.declared.slot.Slot.TheVariants.{Empty}
 use Rattle.script.specs.declared.command.Make.{Make}
 use Rattle.script.specs.declared.command.Make.TheVariants.{Array, Hash}
 use Rattle.script.specs.declared.command.Shape.{Shape}
@@ -22,7 +21,7 @@ abbrev pub FlatBuilt : Make → ℕ → Flat → Type 0
 FlatBuilt Array n (First s) = vec_items s.slots ≡ replicate n None
 FlatBuilt Array n (Second s) = ⊥
 FlatBuilt Hash n (First s) = ⊥
-FlatBuilt Hash n (Second s) = vec_items s.slots ≡ replicate n Empty
+FlatBuilt Hash n (Second s) = vec_items s.slots ≡ replicate n None
 
 abbrev pub Viewed : Option View → Make → ℕ → Loose → Type 0
 Viewed None m n (First s) = FlatBuilt m n s

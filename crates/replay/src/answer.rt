@@ -3,18 +3,21 @@ ghost use Rattle.std.specs.Prelude.{Some};
 ghost use Rattle.replay.specs.Answers.{shown_answer};
 
 use std::fmt;
+use stores::store::NotTaken;
 use values::marked::Marked;
 
-#[derive(Clone, Copy)]
+// What a store answered, or what was done in its place.
+#[derive(Clone, Copy, PartialEq, Eq, Debug)]
 pub enum Answer {
+    // A new store stands.
     Made,
-    Put,
-    NotTaken,
+    Put(Result<(), NotTaken>),
     Dropped,
-    Value(Marked),
-    Nothing,
-    Yes,
-    No,
+    // What is held at the address.
+    Held(Option<Marked>),
+    // Whether the address is taken.
+    Taken(bool),
+    // No store was made that could be asked.
     NoStore,
 }
 
@@ -24,13 +27,13 @@ impl fmt::Display for Answer {
     fn fmt<W: fmt::Write>(&self, f: &mut fmt::Formatter<W>) -> fmt::Result {
         match *self {
             Answer::Made => f.write_str("store made"),
-            Answer::Put => f.write_str("put"),
-            Answer::NotTaken => f.write_str("not taken"),
+            Answer::Put(Ok(())) => f.write_str("put"),
+            Answer::Put(Err(refused)) => write!(f, "{refused}"),
             Answer::Dropped => f.write_str("dropped"),
-            Answer::Value(v) => write!(f, "{v}"),
-            Answer::Nothing => f.write_str("nothing"),
-            Answer::Yes => f.write_str("yes"),
-            Answer::No => f.write_str("no"),
+            Answer::Held(Some(value)) => write!(f, "{value}"),
+            Answer::Held(None) => f.write_str("nothing"),
+            Answer::Taken(true) => f.write_str("yes"),
+            Answer::Taken(false) => f.write_str("no"),
             Answer::NoStore => f.write_str("no store"),
         }
     }

@@ -11,24 +11,12 @@ pub(crate) fn ask<S: Store<Entry = Marked>>(store: &mut S, call: Call) -> Answer
     ensures kept { S.Store.kept store.old store.new }
 {
     match call {
-        Call::Put(a, v) => match store.put(a, v) {
-            Ok(()) => Answer::Put,
-            Err(_) => Answer::NotTaken,
-        },
+        Call::Put(a, v) => Answer::Put(store.put(a, v)),
         Call::Drop(a) => {
             store.drop(a);
             Answer::Dropped
         }
-        Call::Get(a) => match store.get(a) {
-            Some(v) => Answer::Value(v),
-            None => Answer::Nothing,
-        },
-        Call::Takes(a) => {
-            if store.takes(a) {
-                Answer::Yes
-            } else {
-                Answer::No
-            }
-        }
+        Call::Get(a) => Answer::Held(store.get(a)),
+        Call::Takes(a) => Answer::Taken(store.takes(a)),
     }
 }

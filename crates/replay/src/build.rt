@@ -5,7 +5,6 @@ ghost use Rattle.replay.specs.Builds.{Built, FlatBuilt};
 use crate::either::Either;
 use array_store::ArrayStore;
 use hash_store::HashStore;
-use hash_store::slot::Slot;
 use script::command::{Make, Shape};
 use std::alloc::{AllocError, Global};
 use values::marked::Marked;
@@ -25,7 +24,7 @@ fn flat(heap: Global, make: Make, slots: u32) -> Result<Flat, AllocError>
             Ok(Either::First(ArrayStore::new(empty)))
         }
         Make::Hash => {
-            let empty = vec![in heap; Slot::Empty; slots as usize]?;
+            let empty = vec![in heap; None; slots as usize]?;
             Ok(Either::Second(HashStore::new(empty)))
         }
     }

@@ -3,6 +3,7 @@ ghost use Rattle.replay.specs.Either.{EitherKept, either_entry, either_held, eit
 
 use stores::store::{NotTaken, Store};
 
+// An enum and no boxed `dyn Store`: no function here may make a dyn value and hand it out.
 #[derive(Drop)]
 pub(crate) enum Either<A, B> {
     First(A),

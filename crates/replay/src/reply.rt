@@ -10,7 +10,8 @@ use script::line::parse;
 use std::alloc::{AllocError, Global};
 use std::fmt;
 
-#[derive(Clone, Copy)]
+// An enum and no `Result`: what is wrong with a line is no failure of the call, and all three are printed.
+#[derive(Clone, Copy, PartialEq, Eq, Debug)]
 pub enum Reply {
     Silent,
     Answered(Answer),

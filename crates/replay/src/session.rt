@@ -1,11 +1,12 @@
 // What a script has made so far.
-ghost use Rattle.std.specs.Prelude.{◌≡◌, None};
+ghost use Rattle.std.specs.Prelude.{◌≡◌, None, Ok};
+ghost use Rattle.script.specs.declared.command.Command.TheVariants.{Ask, Build};
 ghost use Rattle.replay.specs.Sessions.{Obeyed};
 
 use crate::answer::Answer;
 use crate::ask::ask;
 use crate::build::{Loose, build};
-use script::command::Command;
+use script::command::{Call, Command, Shape};
 use std::alloc::{AllocError, Global};
 
 #[derive(Drop)]
@@ -25,14 +26,25 @@ impl Session {
         ensures { Obeyed self.old.store command result self.new.store }
     {
         match command {
-            Command::Build(shape) => {
-                self.store = Some(build(heap, shape)?);
-                Ok(Answer::Made)
-            }
-            Command::Ask(call) => match &mut self.store {
-                Some(store) => Ok(ask(store, call)),
-                None => Ok(Answer::NoStore),
-            },
+            Command::Build(shape) => self.replace(heap, shape),
+            Command::Ask(call) => Ok(self.ask(call)),
+        }
+    }
+
+    fn replace(&mut self, heap: Global, shape: Shape) -> Result<Answer, AllocError>
+        ensures { Obeyed self.old.store (Build shape) result self.new.store }
+    {
+        self.store = Some(build(heap, shape)?);
+        Ok(Answer::Made)
+    }
+
+    // A `match` and no `map_or`: what a closure leaves behind this borrow has no name in a proof.
+    fn ask(&mut self, call: Call) -> Answer
+        ensures { Obeyed self.old.store (Ask call) (Ok result) self.new.store }
+    {
+        match &mut self.store {
+            Some(store) => ask(store, call),
+            None => Answer::NoStore,
         }
     }
 }

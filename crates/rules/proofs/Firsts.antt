@@ -1,52 +1,59 @@
-use Rattle.std.proofs.Common.{◌≡◌, ℕ, zero, suc, ◌+◌, ◌<◌, Bool, true, false, cond, List, length, get_or, drop, Some, None, Option, sym, refl, ap, ◌∙◌, arith}
-use Rattle.std.specs.List.{slice_get}
-use Rattle.std.proofs.lemmas.Option.{slice_get-get_or}
-use Rattle.std.proofs.lemmas.List.{at_drop_more}
-use Rattle.content.specs.declared.function.Function.{Function}
-use Rattle.parts.specs.Content.{Content}
-use Rattle.rules.specs.declared.rule.Rule.{Rule}
-use Rattle.rules.specs.Judging.{next, first_failing, holds, or_else, broken_by, broken_by_any}
+use Rattle.std.proofs.Common.{◌≡◌, ℕ, suc, ◌<◌, ◌≤◌, Bool, true, false, not, cond, List, [], ◌∷◌, length, Some, None, Option, nat_lt, sym, refl, ap, ◌∙◌, ⊎_elim, arith}
+use Rattle.std.specs.List.{slice_get, find, position, position_or_len, range_with_len}
+use Rattle.std.specs.Option.{option_map}
+use Rattle.std.proofs.lemmas.Option.{slice_get-get_or, slice_get_within, slice_get_past, get_or_from_slice_get}
+use Rattle.std.proofs.lemmas.Bool.{cases_lt}
+use Rattle.std.proofs.lemmas.Bool.Decides.{nat_tests}
+use Rattle.std.proofs.lemmas.List.Sums.{fails_before_first}
+use Rattle.std.proofs.lemmas.List.Folds.{find_at}
+use Rattle.std.proofs.lemmas.List.FromFn.{length-range_with_len, get_or-range_with_len}
+use Rattle.rules.specs.Judging.{first_in}
 
--- every place passes
-pub none_fails : (test : ℕ → Bool) (n : ℕ) → ((k : ℕ) → k < n → test k ≡ true) → first_failing test n ≡ None
-none_fails test zero h = refl
-none_fails test (suc n) h =
-    ap (λ b. cond b (next (first_failing (λ k. test (suc k)) n)) (Some 0)) (h 0 (omega arith))
-    ∙ ap next (none_fails (λ k. test (suc k)) n (λ k l. h (suc k) (omega arith)))
+none_long : (m n : ℕ) → ◌≡◌ {A = Option ℕ} (cond (nat_lt m n) (Some m) None) None → n ≤ m
+none_long m n e = grind (arith, nat_tests)
 
--- the places before i pass, and i doesn't
-pub first_fails : (test : ℕ → Bool) (n i : ℕ) → i < n → ((k : ℕ) → k < i → test k ≡ true) → test i ≡ false → first_failing test n ≡ Some i
-first_fails test zero i l h f = absurd (omega arith)
-first_fails test (suc n) zero l h f = ap (λ b. cond b (next (first_failing (λ k. test (suc k)) n)) (Some 0)) f
-first_fails test (suc n) (suc i) l h f =
-    ap (λ b. cond b (next (first_failing (λ k. test (suc k)) n)) (Some 0)) (h 0 (omega arith))
-    ∙ ap next (first_fails (λ k. test (suc k)) n i (omega arith) (λ k m. h (suc k) (omega arith)) f)
+long_none : (m n : ℕ) → n ≤ m → ◌≡◌ {A = Option ℕ} (cond (nat_lt m n) (Some m) None) None
+long_none m n h = grind (arith, nat_tests)
 
-pub some_none : (k : ℕ) → ◌≡◌ {A = Option ℕ} (Some k) None → ⊥
-some_none k e = let z : ◌≡◌ {A = ℕ} 0 1 = cc in omega arith
+some_short : (m n : ℕ) → m < n → ◌≡◌ {A = Option ℕ} (cond (nat_lt m n) (Some m) None) (Some m)
+some_short m n h = grind (arith, nat_tests)
 
-next_none : (o : Option ℕ) → next o ≡ None → o ≡ None
-next_none None e = refl
-next_none (Some k) e = absurd (some_none (suc k) e)
+passing : (b : Bool) → not b ≡ false → b ≡ true
+passing b e = grind arith
 
-led : (b : Bool) (o : Option ℕ) → cond b (next o) (Some 0) ≡ None → (b ≡ true) × (o ≡ None)
-led true o e = (refl, next_none o e)
-led false o e = absurd (some_none 0 e)
+module _ {R : Type 0} (test : R → Bool) where
+  all_long : (xs : List R) → ((k : ℕ) (x : R) → slice_get xs k ≡ Some x → test x ≡ true) → length xs ≤ position_or_len (λ x. not (test x)) xs
+  all_long [] h = omega arith
+  all_long (x ∷ xs) h = let l = all_long xs (λ k y e. h (suc k) y e) in rw (h 0 x refl) (omega (arith, l))
 
--- where none fails, every place passes
-pub all_pass : (test : ℕ → Bool) (n : ℕ) → first_failing test n ≡ None → (k : ℕ) → k < n → test k ≡ true
-all_pass test zero e k l = absurd (omega arith)
-all_pass test (suc n) e zero l = (led (test 0) (first_failing (λ k. test (suc k)) n) e).0
-all_pass test (suc n) e (suc k) l = all_pass (λ k. test (suc k)) n (led (test 0) (first_failing (λ k. test (suc k)) n) e).1 k (omega arith)
+  -- where no item fails the test, each passes it
+  pub in_none : (xs : List R) → first_in test xs ≡ None → (k : ℕ) (x : R) → slice_get xs k ≡ Some x → test x ≡ true
+  in_none xs n k x e =
+      let long = none_long (position_or_len (λ y. not (test y)) xs) (length xs) n in
+      let l = slice_get_within xs k x e in
+      passing _ (ap (λ y. not (test y)) (sym (get_or_from_slice_get xs k x x e)) ∙ fails_before_first (λ y. not (test y)) xs k x (omega (arith, long, l)))
 
--- the test at a place that a list has
-pub holds_at : {R : Type 0} (test : R → Bool) (xs : List R) (k : ℕ) (x : R) → k < length xs → x ≡ get_or xs k x → holds test (slice_get xs k) ≡ test x
-holds_at test xs k x l e = ap (holds test) (slice_get-get_or xs k x l) ∙ ap test (sym e)
+  pub none_in : (xs : List R) → ((k : ℕ) (x : R) → slice_get xs k ≡ Some x → test x ≡ true) → first_in test xs ≡ None
+  none_in xs h = long_none _ _ (all_long xs h)
 
-module _ (r : Rule) (c : Content) (fs : List Function) (k : ℕ) (d : Function) (o all : Option ℕ) where
-  -- a function without a broken instruction is passed over
-  pub function_passed : k < length fs → o ≡ broken_by r c (get_or fs k d) → o ≡ None → all ≡ broken_by_any r c (drop k fs) → all ≡ broken_by_any r c (drop (k + 1) fs)
-  function_passed l e n a = a ∙ at_drop_more (broken_by_any r c) fs k d l ∙ ap (λ b. or_else b (broken_by_any r c (drop (k + 1) fs))) (sym e ∙ n)
+pub at_range : (n i : ℕ) → i < n → slice_get (range_with_len 0 n) i ≡ Some i
+at_range n i l = slice_get-get_or (range_with_len 0 n) i 0 (omega (arith, length-range_with_len 0 n)) ∙ ap Some (let e = get_or-range_with_len 0 n i 0 l in omega arith)
 
-  pub function_broken : (i : ℕ) → k < length fs → o ≡ broken_by r c (get_or fs k d) → o ≡ Some i → all ≡ broken_by_any r c (drop k fs) → all ≡ Some i
-  function_broken i l e n a = a ∙ at_drop_more (broken_by_any r c) fs k d l ∙ ap (λ b. or_else b (broken_by_any r c (drop (k + 1) fs))) (sym e ∙ n)
+pub in_range : (n k i : ℕ) → slice_get (range_with_len 0 n) k ≡ Some i → i < n
+in_range n k i e =
+    let l : k < n = omega (arith, slice_get_within (range_with_len 0 n) k i e, length-range_with_len 0 n) in
+    omega (arith, get_or_from_slice_get (range_with_len 0 n) k i 0 e, get_or-range_with_len 0 n k 0 l)
+
+-- in a range from 0 on an item is its place
+pub find_range : (p : ℕ → Bool) (n : ℕ) → find p (range_with_len 0 n) ≡ position p (range_with_len 0 n)
+find_range p n =
+    let xs = range_with_len 0 n in
+    let m = position_or_len p xs in
+    find_at p xs
+    ∙ ⊎_elim
+    (λ l. at_range n m (omega (arith, length-range_with_len 0 n)) ∙ sym (some_short m (length xs) l))
+    (λ h. slice_get_past xs m h ∙ sym (long_none m (length xs) h))
+    (cases_lt m (length xs))
+
+pub map_same : (o : Option ℕ) → o ≡ option_map (λ x. x) o
+map_same o = grind arith

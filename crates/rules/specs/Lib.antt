@@ -2,3 +2,4 @@ pub mod Types
 pub mod Keeping
 pub mod Judging
 pub mod Faults
+pub mod Texts

@@ -1,4 +1,4 @@
-use Rattle.std.specs.Prelude.{ℕ, ◌+◌, Bool, true, false, cond, List, Some, None, Option, ◌==◌, nat_lt}
+use Rattle.std.specs.Prelude.{ℕ, ◌+◌, Bool, true, false, cond, List, is_some, Some, None, Option, ◌==◌, nat_lt}
 use Rattle.std.specs.List.{slice_get}
 use Rattle.content.specs.declared.kind.Kind.{Kind}
 use Rattle.content.specs.declared.kind.Kind.TheVariants as kind
@@ -15,22 +15,17 @@ atomic (Some kind.Function) = false
 atomic (Some (kind.Pointer to)) = true
 atomic (Some (kind.Fields first count)) = false
 
--- atomic types and records are sized; a record takes one word a field, and other types take none
-abbrev pub size : Option Kind → ℕ
-size None = 0
-size (Some kind.Number) = 1
-size (Some kind.Void) = 0
-size (Some kind.Function) = 0
-size (Some (kind.Pointer to)) = 1
-size (Some (kind.Fields first count)) = count
+-- atomic types and records are sized: an atomic type takes one word, a record one word a field
+abbrev pub size : Option Kind → Option ℕ
+size None = None
+size (Some kind.Number) = Some 1
+size (Some kind.Void) = None
+size (Some kind.Function) = None
+size (Some (kind.Pointer to)) = Some 1
+size (Some (kind.Fields first count)) = Some count
 
 abbrev pub sized : Option Kind → Bool
-sized None = false
-sized (Some kind.Number) = true
-sized (Some kind.Void) = false
-sized (Some kind.Function) = false
-sized (Some (kind.Pointer to)) = true
-sized (Some (kind.Fields first count)) = true
+sized o = is_some (size o)
 
 abbrev pub number : Option Kind → Bool
 number None = false

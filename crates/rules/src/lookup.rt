@@ -11,62 +11,44 @@ use content::typed::Typed;
 pub fn item_at<R: Copy>(items: &[R], i: usize) -> Option<R>
     ensures { result ≡ slice_get items.now i }
 {
-    match items.get(i) {
-        Some(item) => Some(*item),
-        None => None,
-    }
+    items.get(i).copied()
 }
 
 pub(crate) fn kind_at(types: &[Kind], t: Option<u32>) -> Option<Kind>
     ensures { result ≡ kind_at types.now t }
 {
-    match t {
-        Some(t) => item_at(types, t as usize),
-        None => None,
-    }
+    item_at(types, t? as usize)
 }
 
 pub(crate) fn atomic(kind: Option<Kind>) -> bool
     ensures { result ≡ atomic kind }
 {
-    match kind {
-        Some(Kind::Number) | Some(Kind::Pointer { .. }) => true,
-        _ => false,
-    }
+    matches!(kind, Some(Kind::Number | Kind::Pointer { .. }))
 }
 
 pub(crate) fn sized(kind: Option<Kind>) -> bool
     ensures { result ≡ sized kind }
 {
-    match kind {
-        Some(Kind::Number) | Some(Kind::Pointer { .. }) | Some(Kind::Fields { .. }) => true,
-        _ => false,
-    }
+    size(kind).is_some()
 }
 
 pub(crate) fn number(kind: Option<Kind>) -> bool
     ensures { result ≡ number kind }
 {
-    match kind {
-        Some(Kind::Number) => true,
-        _ => false,
-    }
+    kind == Some(Kind::Number)
 }
 
 pub(crate) fn function(kind: Option<Kind>) -> bool
     ensures { result ≡ function kind }
 {
-    match kind {
-        Some(Kind::Function) => true,
-        _ => false,
-    }
+    kind == Some(Kind::Function)
 }
 
 pub(crate) fn pointee(kind: Option<Kind>) -> Option<u32>
     ensures { result ≡ pointee kind }
 {
-    match kind {
-        Some(Kind::Pointer { to }) => Some(to),
+    match kind? {
+        Kind::Pointer { to } => Some(to),
         _ => None,
     }
 }
@@ -74,36 +56,25 @@ pub(crate) fn pointee(kind: Option<Kind>) -> Option<u32>
 pub(crate) fn type_at(list: &[Typed], first: u32, k: u32) -> Option<u32>
     ensures { result ≡ type_of (slice_get list.now (first + k)) }
 {
-    match item_at(list, first as usize + k as usize) {
-        Some(typed) => Some(typed.kind),
-        None => None,
-    }
+    item_at(list, first as usize + k as usize).map(|typed| typed.kind)
 }
 
 pub(crate) fn global_type(globals: &[Global], g: u32) -> Option<u32>
     ensures { result ≡ global_type (slice_get globals.now g) }
 {
-    match item_at(globals, g as usize) {
-        Some(global) => Some(global.kind),
-        None => None,
-    }
+    item_at(globals, g as usize).map(|global| global.kind)
 }
 
 pub(crate) fn field_type(fields: &[Typed], kind: Option<Kind>, k: u32) -> Option<u32>
     ensures { result ≡ field_type fields.now kind k }
 {
-    match kind {
-        Some(Kind::Fields { first, count }) => {
-            if k < count {
-                type_at(fields, first, k)
-            } else {
-                None
-            }
-        }
+    match kind? {
+        Kind::Fields { first, count } if k < count => type_at(fields, first, k),
         _ => None,
     }
 }
 
+// The type of local x of the function.
 pub fn local_type(locals: &[Typed], function: &Function, x: u32) -> Option<u32>
     ensures { result ≡ local_type locals.now function.now x }
 {
@@ -114,22 +85,20 @@ pub fn local_type(locals: &[Typed], function: &Function, x: u32) -> Option<u32>
     }
 }
 
+// The derived equality alone would take none and none as the same.
 pub(crate) fn same(a: Option<u32>, b: Option<u32>) -> bool
     ensures { result ≡ same a b }
 {
-    match (a, b) {
-        (Some(a), Some(b)) => a == b,
-        _ => false,
-    }
+    a.is_some() && a == b
 }
 
-// How many words a type takes, 0 where it isn't sized.
-pub fn size(kind: Option<Kind>) -> u32
+// How many words a type takes, if it is sized.
+pub fn size(kind: Option<Kind>) -> Option<u32>
     ensures { result ≡ size kind }
 {
-    match kind {
-        Some(Kind::Number) | Some(Kind::Pointer { .. }) => 1,
-        Some(Kind::Fields { count, .. }) => count,
-        _ => 0,
+    match kind? {
+        Kind::Number | Kind::Pointer { .. } => Some(1),
+        Kind::Fields { count, .. } => Some(count),
+        Kind::Void | Kind::Function => None,
     }
 }

@@ -12,17 +12,25 @@ use content::kind::Kind;
 use content::typed::Typed;
 use parts::lists::Lists;
 
+// A rule, and the lists that are to keep it.
+#[derive(Clone, Copy)]
+pub(crate) struct Ruling<'a> {
+    pub(crate) rule: Rule,
+    pub(crate) lists: &'a Lists<'a>,
+}
+
 pub(crate) trait Ruled: Copy {
     ghost keeps: { Rule → Content → Self → Bool };
 
-    fn passes(self, rule: Rule, lists: &Lists) -> bool
-        ensures { result ≡ keeps rule (viewed lists.now) self };
+    fn passes(self, ruling: &Ruling) -> bool
+        ensures { result ≡ keeps ruling.now.rule (viewed ruling.now.lists.now) self };
 }
 
 impl Ruled for Kind {
     ghost keeps = { kind_keeps };
 
-    fn passes(self, rule: Rule, lists: &Lists) -> bool {
+    fn passes(self, ruling: &Ruling) -> bool {
+        let Ruling { rule, lists } = *ruling;
         match (rule, self) {
             (Rule::Names, Kind::Pointer { to }) => (to as usize) < lists.types.len(),
             (Rule::Names, Kind::Fields { first, count }) => first as usize + count as usize
@@ -35,7 +43,8 @@ impl Ruled for Kind {
 impl Ruled for Typed {
     ghost keeps = { typed_keeps };
 
-    fn passes(self, rule: Rule, lists: &Lists) -> bool {
+    fn passes(self, ruling: &Ruling) -> bool {
+        let Ruling { rule, lists } = *ruling;
         match rule {
             Rule::Names => (self.kind as usize) < lists.types.len(),
             Rule::Types => atomic(item_at(lists.types, self.kind as usize)),
@@ -46,7 +55,8 @@ impl Ruled for Typed {
 impl Ruled for Global {
     ghost keeps = { global_keeps };
 
-    fn passes(self, rule: Rule, lists: &Lists) -> bool {
+    fn passes(self, ruling: &Ruling) -> bool {
+        let Ruling { rule, lists } = *ruling;
         match rule {
             Rule::Names => (self.kind as usize) < lists.types.len(),
             Rule::Types => sized(item_at(lists.types, self.kind as usize)),
@@ -57,7 +67,8 @@ impl Ruled for Global {
 impl Ruled for Function {
     ghost keeps = { function_keeps };
 
-    fn passes(self, rule: Rule, lists: &Lists) -> bool {
+    fn passes(self, ruling: &Ruling) -> bool {
+        let Ruling { rule, lists } = *ruling;
         match rule {
             Rule::Names => {
                 self.first as usize + self.count as usize <= lists.code.len()

@@ -1,10 +1,10 @@
 // What is wrong with a line.
-ghost use Rattle.std.specs.Prelude.{◌≡◌, Some};
+ghost use Rattle.std.specs.Prelude.{Some};
 ghost use Rattle.script.specs.Reasons.{reason};
 
 use std::fmt;
 
-#[derive(Clone, Copy)]
+#[derive(Clone, Copy, PartialEq, Eq, Debug)]
 pub enum Fault {
     // A word that the script doesn't know at this place.
     Word,
@@ -18,25 +18,17 @@ pub enum Fault {
     Bounds,
 }
 
-impl Fault {
+impl fmt::Display for Fault {
+    ghost output = { λ f. Some (reason f) };
+
     // The reason that a transcript gives.
-    fn text(self) -> &'static str
-        ensures { result.now ≡ reason self }
-    {
-        match self {
+    fn fmt<W: fmt::Write>(&self, f: &mut fmt::Formatter<W>) -> fmt::Result {
+        f.write_str(match self {
             Fault::Word => "unknown word",
             Fault::Count => "wrong count of words",
             Fault::Number => "not a number",
             Fault::Large => "number beyond its limit",
             Fault::Bounds => "low must be below high, and high at most 65536",
-        }
-    }
-}
-
-impl fmt::Display for Fault {
-    ghost output = { λ f. Some (reason f) };
-
-    fn fmt<W: fmt::Write>(&self, f: &mut fmt::Formatter<W>) -> fmt::Result {
-        f.write_str(self.text())
+        })
     }
 }

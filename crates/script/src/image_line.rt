@@ -1,31 +1,46 @@
 // A line about modules, read into what it asks for.
-ghost use Rattle.std.specs.Prelude.{◌≡◌};
+ghost use Rattle.std.specs.Prelude.{◌≡◌, Some};
 ghost use Rattle.std.specs.Option.{option_map};
 ghost use Rattle.script.specs.Words.{words as split};
-ghost use Rattle.script.specs.Asks.{alone, asked_words, heard_image, image_words, write_words};
+ghost use Rattle.script.specs.Reasons.{image_reason};
+ghost use Rattle.script.specs.Asks.{alone, asked_words, heard_image, image_words, verb_words, write_words};
 ghost use Rattle.script.specs.Asks as asks;
 ghost use Rattle.script.specs.declared.image_line.ImageFault.TheVariants as image_fault;
 
 use crate::fault::Fault;
-use crate::words::{Words, is};
+use crate::words::Words;
 use hex_bytes::hex::is_hex;
+use std::fmt;
 
 // The most bytes that a module may be written to.
 const MOST_BYTES: u32 = 65_536;
 
 // What is wrong with a line about modules.
-#[derive(Clone, Copy)]
+#[derive(Clone, Copy, PartialEq, Eq, Debug)]
 pub enum ImageFault {
     Line(Fault),
     // A word that isn't bytes, two lower-case hex digits each.
     Hex,
 }
 
+// By hand, as a clause reads `from_gives`.
 impl From<Fault> for ImageFault {
     ghost from_gives = { λ e r. r ≡ image_fault.Line e };
 
     fn from(fault: Fault) -> ImageFault {
         ImageFault::Line(fault)
+    }
+}
+
+impl fmt::Display for ImageFault {
+    ghost output = { λ e. Some (image_reason e) };
+
+    // The reason that a transcript gives.
+    fn fmt<W: fmt::Write>(&self, f: &mut fmt::Formatter<W>) -> fmt::Result {
+        match self {
+            ImageFault::Line(fault) => write!(f, "{fault}"),
+            ImageFault::Hex => f.write_str("not bytes in hex"),
+        }
     }
 }
 
@@ -40,23 +55,21 @@ pub enum ImageLine<'a> {
 
 #[tactic(auto, unfolding(crate::specs::Asks::image_words))]
 fn image<'a>(words: &mut Words<'a>) -> Result<ImageLine<'a>, ImageFault>
-    ensures { heard_image result ≡ image_words (split words.old.rest.now) }
+    ensures { heard_image result ≡ image_words words.old }
 {
-    match words.next() {
-        Some(digits) => {
-            if !is_hex(digits) {
-                return Err(ImageFault::Hex);
-            }
-            words.end()?;
-            Ok(ImageLine::Image(digits))
-        }
-        None => Ok(ImageLine::Image(&[])),
+    let Some(digits) = words.next() else {
+        return Ok(ImageLine::Image(&[]));
+    };
+    if !is_hex(digits) {
+        return Err(ImageFault::Hex);
     }
+    words.end()?;
+    Ok(ImageLine::Image(digits))
 }
 
 #[tactic(auto, unfolding(crate::specs::Asks::write_words))]
 fn write<'a>(words: &mut Words<'a>) -> Result<ImageLine<'a>, ImageFault>
-    ensures { heard_image result ≡ write_words (split words.old.rest.now) }
+    ensures { heard_image result ≡ write_words words.old }
 {
     let bytes = words.number(MOST_BYTES)?;
     words.end()?;
@@ -64,26 +77,30 @@ fn write<'a>(words: &mut Words<'a>) -> Result<ImageLine<'a>, ImageFault>
 }
 
 fn sensitive<'a>(words: &mut Words<'a>) -> Result<ImageLine<'a>, ImageFault>
-    ensures { heard_image result ≡ alone asks.sensitive (split words.old.rest.now) }
+    ensures { heard_image result ≡ alone asks.sensitive words.old }
 {
     words.end()?;
     Ok(ImageLine::Sensitive)
 }
 
-// What the line asks for, or nothing where it isn't about modules.
+// The verb is read before it is known who reads the other words, so that both are handed on.
 #[tactic(auto, unfolding(crate::specs::Asks::verb_words))]
+fn asked<'a>(verb: &[u8], words: &mut Words<'a>) -> Option<Result<ImageLine<'a>, ImageFault>>
+    ensures { option_map heard_image result ≡ verb_words verb.now words.old }
+{
+    match verb {
+        b"image" => Some(image(words)),
+        b"write" => Some(write(words)),
+        b"sensitive" => Some(sensitive(words)),
+        _ => None,
+    }
+}
+
+// What the line asks for, or nothing where it isn't about modules.
 pub fn parse(line: &[u8]) -> Option<Result<ImageLine, ImageFault>>
     ensures { option_map heard_image result ≡ asked_words (split line.now) }
 {
     let mut words = Words::of(line);
     let verb = words.next()?;
-    if is(verb, "image") {
-        Some(image(&mut words))
-    } else if is(verb, "write") {
-        Some(write(&mut words))
-    } else if is(verb, "sensitive") {
-        Some(sensitive(&mut words))
-    } else {
-        None
-    }
+    asked(verb, &mut words)
 }

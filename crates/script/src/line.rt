@@ -6,25 +6,25 @@ ghost use Rattle.script.specs.Words.{words as split};
 
 use crate::command::{Call, Command, Make, Shape, View};
 use crate::fault::Fault;
-use crate::words::{Words, is};
+use crate::words::Words;
 
 // The largest store that a script may ask for.
 const MOST_SLOTS: u32 = 70_000;
 
+#[tactic(auto, unfolding(crate::specs::Lines::make_of))]
 fn make_of(word: &[u8]) -> Result<Make, Fault>
     ensures { result ≡ make_of word.now }
 {
-    if is(word, "array") {
-        Ok(Make::Array)
-    } else if is(word, "hash") {
-        Ok(Make::Hash)
-    } else {
-        Err(Fault::Word)
+    match word {
+        b"array" => Ok(Make::Array),
+        b"hash" => Ok(Make::Hash),
+        _ => Err(Fault::Word),
     }
 }
 
+#[tactic(auto, using(crate::proofs::Ends::end_of), unfolding(crate::specs::Lines::shape_words))]
 fn shape(words: &mut Words, view: Option<View>, make: &[u8]) -> Result<Shape, Fault>
-    ensures { result ≡ shape_words view make.now (split words.old.rest.now) }
+    ensures { result ≡ shape_words view make.now words.old }
 {
     let make = make_of(make)?;
     let slots = words.number(MOST_SLOTS)?;
@@ -32,70 +32,68 @@ fn shape(words: &mut Words, view: Option<View>, make: &[u8]) -> Result<Shape, Fa
     Ok(Shape { view, make, slots })
 }
 
+#[tactic(auto, unfolding(crate::specs::Lines::store_words))]
 fn store(words: &mut Words) -> Result<Shape, Fault>
-    ensures { result ≡ store_words (split words.old.rest.now) }
+    ensures { result ≡ store_words words.old }
 {
-    let first = words.word()?;
-    if is(first, "window") {
-        let base = words.number(u32::MAX)?;
-        let len = words.number(u32::MAX)?;
-        let make = words.word()?;
-        shape(words, Some(View { base, len }), make)
-    } else {
-        shape(words, None, first)
+    match words.word()? {
+        b"window" => {
+            let base = words.number(u32::MAX)?;
+            let len = words.number(u32::MAX)?;
+            let make = words.word()?;
+            shape(words, Some(View { base, len }), make)
+        }
+        make => shape(words, None, make),
     }
 }
 
+#[tactic(auto, using(crate::proofs::Ends::end_of), unfolding(crate::specs::Lines::put_words))]
 fn put(words: &mut Words) -> Result<Call, Fault>
-    ensures { heard said_call result ≡ put_words (split words.old.rest.now) }
+    ensures { heard said_call result ≡ put_words words.old }
 {
-    let a = words.number(u32::MAX)?;
-    let v = words.value()?;
+    let address = words.number(u32::MAX)?;
+    let value = words.value()?;
     words.end()?;
-    Ok(Call::Put(a, v))
+    Ok(Call::Put(address, value))
 }
 
+#[tactic(auto, using(crate::proofs::Ends::end_of), unfolding(crate::specs::Lines::address_words))]
 fn address(words: &mut Words) -> Result<u32, Fault>
-    ensures { result ≡ address_words (split words.old.rest.now) }
+    ensures { result ≡ address_words words.old }
 {
-    let a = words.number(u32::MAX)?;
+    let address = words.number(u32::MAX)?;
     words.end()?;
-    Ok(a)
+    Ok(address)
 }
 
+// The verb is read before it is known who reads the other words, so that both are handed on.
+#[tactic(auto, unfolding(crate::specs::Lines::call_words))]
 fn call(verb: &[u8], words: &mut Words) -> Result<Call, Fault>
-    ensures { heard said_call result ≡ call_words verb.now (split words.old.rest.now) }
+    ensures { heard said_call result ≡ call_words verb.now words.old }
 {
-    if is(verb, "put") {
-        put(words)
-    } else if is(verb, "drop") {
-        Ok(Call::Drop(address(words)?))
-    } else if is(verb, "get") {
-        Ok(Call::Get(address(words)?))
-    } else if is(verb, "takes") {
-        Ok(Call::Takes(address(words)?))
-    } else {
-        Err(Fault::Word)
+    match verb {
+        b"put" => put(words),
+        b"drop" => address(words).map(Call::Drop),
+        b"get" => address(words).map(Call::Get),
+        b"takes" => address(words).map(Call::Takes),
+        _ => Err(Fault::Word),
     }
 }
 
+#[tactic(auto, unfolding(crate::specs::Lines::command_words))]
 fn command(verb: &[u8], words: &mut Words) -> Result<Command, Fault>
-    ensures { heard said result ≡ command_words verb.now (split words.old.rest.now) }
+    ensures { heard said result ≡ command_words verb.now words.old }
 {
-    if is(verb, "store") {
-        Ok(Command::Build(store(words)?))
-    } else {
-        Ok(Command::Ask(call(verb, words)?))
+    match verb {
+        b"store" => store(words).map(Command::Build),
+        _ => call(verb, words).map(Command::Ask),
     }
 }
 
 fn is_comment(word: &[u8]) -> bool
     ensures { result ≡ is_comment word.now }
 {
-    match word.first() {
-        Some(b) => *b == b'#',
-        None => false,
-    }
+    word.starts_with(b"#")
 }
 
 // What the line asks for, or nothing where it has no words or is a comment.
@@ -104,13 +102,7 @@ pub fn parse(line: &[u8]) -> Result<Option<Command>, Fault>
 {
     let mut words = Words::of(line);
     match words.next() {
-        Some(verb) => {
-            if is_comment(verb) {
-                Ok(None)
-            } else {
-                Ok(Some(command(verb, &mut words)?))
-            }
-        }
-        None => Ok(None),
+        Some(verb) if !is_comment(verb) => command(verb, &mut words).map(Some),
+        _ => Ok(None),
     }
 }

@@ -1,35 +1,31 @@
 // One word after another is read from what is left of a line.
 ghost use Rattle.std.specs.Prelude.{◌≡◌};
 ghost use Rattle.script.specs.Lines.{answered, at_end, mark, take_bounded, take_number, take_value, take_word};
-ghost use Rattle.script.specs.Words.{words};
 
 use crate::fault::Fault;
 use crate::number::number_of;
-use crate::words::{Words, is};
+use crate::words::Words;
 use values::bounds::Bounds;
 use values::marked::Marked;
 
-const MAX: u32 = u32::MAX;
-
 impl<'a> Words<'a> {
+    #[tactic(auto, unfolding(crate::specs::Lines::take_word))]
     pub(crate) fn word(&mut self) -> Result<&'a [u8], Fault>
-        ensures { answered (λ x. x.now) result (words self.new.rest.now) ≡ take_word (words self.old.rest.now) }
+        ensures { answered (λ x. x.now) result self.new ≡ take_word self.old }
     {
-        match self.next() {
-            Some(word) => Ok(word),
-            None => Err(Fault::Count),
-        }
+        self.next().ok_or(Fault::Count)
     }
 
+    #[tactic(auto, unfolding(crate::specs::Lines::take_number))]
     pub(crate) fn number(&mut self, most: u32) -> Result<u32, Fault>
-        ensures { answered (λ n. n) result (words self.new.rest.now) ≡ take_number most (words self.old.rest.now) }
+        ensures { answered (λ n. n) result self.new ≡ take_number most self.old }
     {
-        let word = self.word()?;
-        number_of(word, most)
+        number_of(self.word()?, most)
     }
 
+    #[tactic(auto, unfolding(crate::specs::Lines::at_end))]
     pub(crate) fn end(&mut self) -> Result<(), Fault>
-        ensures { result ≡ at_end tt (words self.old.rest.now) }
+        ensures { result ≡ at_end tt self.old }
     {
         match self.next() {
             Some(_) => Err(Fault::Count),
@@ -38,29 +34,25 @@ impl<'a> Words<'a> {
     }
 
     // A value as `code F` or `data W LOW HIGH`.
+    #[tactic(auto, unfolding(crate::specs::Lines::take_value))]
     pub(crate) fn value(&mut self) -> Result<Marked, Fault>
-        ensures { answered mark result (words self.new.rest.now) ≡ take_value (words self.old.rest.now) }
+        ensures { answered mark result self.new ≡ take_value self.old }
     {
-        let kind = self.word()?;
-        if is(kind, "code") {
-            let function = self.number(MAX)?;
-            Ok(Marked::Code(function))
-        } else if is(kind, "data") {
-            self.bounded()
-        } else {
-            Err(Fault::Word)
+        match self.word()? {
+            b"code" => Ok(Marked::Code(self.number(u32::MAX)?)),
+            b"data" => self.bounded(),
+            _ => Err(Fault::Word),
         }
     }
 
+    #[tactic(auto, unfolding(crate::specs::Lines::take_bounded))]
     fn bounded(&mut self) -> Result<Marked, Fault>
-        ensures { answered mark result (words self.new.rest.now) ≡ take_bounded (words self.old.rest.now) }
+        ensures { answered mark result self.new ≡ take_bounded self.old }
     {
-        let word = self.number(MAX)?;
-        let low = self.number(MAX)?;
-        let high = self.number(MAX)?;
-        match Bounds::new(low, high) {
-            Some(bounds) => Ok(Marked::Data(word, bounds)),
-            None => Err(Fault::Bounds),
-        }
+        let word = self.number(u32::MAX)?;
+        let low = self.number(u32::MAX)?;
+        let high = self.number(u32::MAX)?;
+        let bounds = Bounds::new(low, high).ok_or(Fault::Bounds)?;
+        Ok(Marked::Data(word, bounds))
     }
 }

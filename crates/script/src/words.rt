@@ -1,54 +1,51 @@
 // The words of a line, parted by blanks.
-ghost use Rattle.std.specs.Prelude.{◌≡◌, ◌<◌, ◌≤◌, [], ◌∷◌, length, drop, MatchOption};
-ghost use Rattle.script.specs.Words.{after_blanks, words};
-ghost use Rattle.std.specs.Str.{bytes_eq};
+ghost use Rattle.std.specs.Prelude.{◌≡◌, ℕ, List, not};
+ghost use Rattle.std.specs.Iterator.{YieldsFirstRef, item_count};
+ghost use Rattle.std.specs.List.{position};
+ghost use Rattle.script.specs.Words.{blank, words};
 
-use crate::text::upto;
+use crate::text::cut;
+use std::marker::Model;
 
-// How many blanks the text begins with.
-fn blanks(text: &[u8]) -> usize
-    ensures within { result ≤ length text.now }
-    ensures behind { drop result text.now ≡ after_blanks text.now }
+// Where the first word begins.
+fn first_letter(text: &[u8]) -> Option<usize>
+    ensures { result ≡ position (λ b. not (blank b)) text.now }
 {
-    for (i, b) in text.iter().enumerate() {
-        if *b != b' ' {
-            return i;
-        }
-    }
-    text.len()
+    text.iter().position(|b| *b != b' ')
 }
 
-// What is left of a line.
+// The words of a line that are left.
 #[derive(Drop)]
 pub(crate) struct Words<'a> {
     rest: &'a [u8],
 }
 
+impl<'a> Model for Words<'a> {
+    ghost Value = { List (List ℕ) };
+
+    ghost view = { λ left. words left.rest.now };
+}
+
 impl<'a> Words<'a> {
     pub(crate) fn of(line: &'a [u8]) -> Words<'a>
-        ensures { result.rest.now ≡ line.now }
+        ensures { result ≡ words line.now }
     {
         Words { rest: line }
     }
+}
 
-    pub(crate) fn next(&mut self) -> Option<&'a [u8]>
-        ensures { MatchOption result (words self.old.rest.now ≡ []) (λ w. words self.old.rest.now ≡ w.now ∷ words self.new.rest.now) }
-    {
-        let start = blanks(self.rest);
-        let text = &self.rest[start..];
-        let end = upto(text, b' ');
-        if end == 0 {
-            return None;
-        }
-        let (word, rest) = text.split_at(end);
+impl<'a> Iterator for Words<'a> {
+    type Item = &'a [u8];
+
+    ghost next_gives = { YieldsFirstRef (λ left. left) };
+
+    ghost remaining = { item_count (λ left. left) };
+
+    #[tactic(auto, using(crate::proofs::Splits::no_letter, crate::proofs::Splits::one_word, std::proofs::lemmas::List::take_rest))]
+    fn next(&mut self) -> Option<&'a [u8]> {
+        let start = first_letter(self.rest)?;
+        let (word, rest) = cut(&self.rest[start..], b' ');
         self.rest = rest;
         Some(word)
     }
-}
-
-// Whether the word is this one.
-pub(crate) fn is(word: &[u8], text: &str) -> bool
-    ensures { result ≡ bytes_eq word.now text.now }
-{
-    word == text.as_bytes()
 }

@@ -1,24 +1,22 @@
-use Rattle.std.proofs.Common.{◌≡◌, ℕ, zero, suc, ◌+◌, ◌<◌, ◌≤◌, Bool, true, false, List, [], ◌∷◌, length, get_or, set, replicate, Some, None, sym, refl, ap, ◌∙◌, inl, inr, ⊎_elim, arith, below_more}
+use Rattle.std.proofs.Common.{◌≡◌, ℕ, suc, ◌+◌, ◌<◌, Bool, true, false, not, cond, List, length, get_or, set, replicate, None, sym, ap, ◌∙◌, inl, inr, ⊎_elim, arith, below_more}
 use Rattle.std.specs.List.{slice_get}
 use Rattle.std.proofs.lemmas.Bool.{cases_eq, cases_lt}
+use Rattle.std.proofs.lemmas.List.Sums.{sum_by-set}
 use Rattle.std.proofs.lemmas.List.{length-replicate, get_or-replicate, get_or-set_other, get_or_past}
-use Rattle.std.proofs.lemmas.Option.{slice_get-get_or, slice_get_past}
+use Rattle.std.proofs.lemmas.Option.{slice_get_past}
 use Rattle.content.specs.declared.kind.Kind.{Kind}
-use Rattle.content.specs.declared.kind.Kind.TheVariants as kind
 use Rattle.content.specs.declared.typed.Typed.{Typed}
 use Rattle.sensitivity.specs.Sensitive.{Chain, here, link, ChainFrom}
-use Rattle.sensitivity.specs.Marks.{Marked, NoMark, Due, Right, unmarked, Round}
+use Rattle.sensitivity.specs.Marks.{Marked, Due, Right, unmarked, Round}
 
 pub differ : {b : Bool} → b ≡ false → b ≡ true → ⊥
 differ {b} p q = grind arith
 
 -- a new mark leaves one place fewer
 unmarked_set : (xs : List Bool) (i : ℕ) → i < length xs → get_or xs i false ≡ false → suc (unmarked (set xs i true)) ≡ unmarked xs
-unmarked_set [] i h e = absurd (omega arith)
-unmarked_set (true ∷ xs) zero h e = grind arith
-unmarked_set (false ∷ xs) zero h e = refl
-unmarked_set (true ∷ xs) (suc i) h e = unmarked_set xs i (omega arith) e
-unmarked_set (false ∷ xs) (suc i) h e = ap suc (unmarked_set xs i (omega arith) e)
+unmarked_set xs i h e =
+    let count : Bool → ℕ = λ b. cond (not b) 1 0 in
+    omega (arith, sum_by-set count xs i true false h, ap count e)
 
 -- what holds at the end of a chain, and goes back over a link, holds at its start
 chain_all : (L : ℕ → ℕ → Type 0) (E M : ℕ → Type 0) → ((i : ℕ) → E i → M i) → ((i j : ℕ) → L i j → M j → M i) → {i : ℕ} → Chain L E i → M i
@@ -71,19 +69,3 @@ module _ (types : List Kind) (fields : List Typed) where
   pub more_same : (old : List Bool) (i : ℕ) (new : List Bool) (changed : Bool) → (Due fields new (slice_get types i) → Marked new i) → Round types fields old i new changed → Round types fields old (i + 1) new changed
   more_same old i new changed d s =
       record { right = s.right; least = s.least; falls = s.falls; closed = λ z. below_more _ _ (s.closed z) d }
-
--- past the last field there is none
-pub no_field : (fields : List Typed) (i : ℕ) → length fields ≤ i → (j : ℕ) → slice_get fields i ≡ Some (record { kind = j }) → ⊥
-no_field fields i h j e = let z : ◌≡◌ {A = ℕ} 0 1 = cc (slice_get_past fields i h) in omega arith
-
-module _ (fields : List Typed) (marks : List Bool) where
-  -- one more field that is not marked
-  pub more_fields : (first k : ℕ) → ((j : ℕ) → slice_get fields (first + k) ≡ Some (record { kind = j }) → Marked marks j → ⊥) → NoMark fields marks (Some (kind.Fields first k)) → NoMark fields marks (Some (kind.Fields first (k + 1)))
-  more_fields first k new old j l m =
-      below_more (λ n. slice_get fields (first + n) ≡ Some (record { kind = j }) → ⊥) k
-      (λ n h e. old j (n, h, e) m)
-      (λ e. new j e m)
-      l.0 l.1 l.2
-
-  pub unmarked_field : (i : ℕ) → i < length fields → get_or marks (get_or fields i (record { kind = 0 })).kind false ≡ false → (j : ℕ) → slice_get fields i ≡ Some (record { kind = j }) → Marked marks j → ⊥
-  unmarked_field i h f j e m = let z : ◌≡◌ {A = Bool} false true = cc (slice_get-get_or fields i (record { kind = 0 }) h) in differ refl z

@@ -1,4 +1,4 @@
-use Rattle.std.specs.Prelude.{◌≡◌, ℕ, suc, ◌<◌, ◌≤◌, Bool, true, false, ◌⊎◌, List, [], ◌∷◌, Option, slice_index_or}
+use Rattle.std.specs.Prelude.{◌≡◌, ℕ, ◌<◌, ◌≤◌, Bool, true, false, not, ◌⊎◌, List, Option, count_by, slice_index_or}
 use Rattle.std.specs.List.{slice_get}
 use Rattle.content.specs.declared.kind.Kind.{Kind}
 use Rattle.content.specs.declared.typed.Typed.{Typed}
@@ -26,9 +26,7 @@ Right types fields marks = (k : ℕ) → Marked marks k → ChainFrom types fiel
 
 -- how many places are not marked
 abbrev pub unmarked : List Bool → ℕ
-unmarked [] = 0
-unmarked (true ∷ xs) = unmarked xs
-unmarked (false ∷ xs) = suc (unmarked xs)
+unmarked marks = count_by not marks
 
 -- a round over the first i types, from the marks old to the marks new
 pub record Round (types : List Kind) (fields : List Typed) (old : List Bool) (i : ℕ) (new : List Bool) (changed : Bool) : Type 0 where

@@ -11,53 +11,60 @@ use content::kind::Kind;
 use content::typed::Typed;
 use parts::parts::Parts;
 
-fn marked(marks: &[bool; 64], t: u32) -> bool
+// Type t is marked.
+pub fn marked(marks: &[bool; 64], t: u32) -> bool
     ensures { result ≡ slice_index_or marks.now t false }
 {
-    (t as usize) < marks.len() && marks[t as usize]
+    marks.get(t as usize).copied().unwrap_or(false)
 }
 
-// The type of the first marked field.
-fn marked_field(fields: &[Typed], marks: &[bool; 64], first: u32, count: u32) -> Option<u32>
-    ensures { MatchOption result (NoMark fields.now marks.now (Some (Kind.Fields first count))) (ToMark fields.now marks.now (Some (Kind.Fields first count))) }
-{
-    for k in 0..count {
-        let at = first as usize + k as usize;
-        if at < fields.len() && marked(marks, fields[at].kind) {
-            return Some(fields[at].kind);
+// The types that are marked, and the fields over which a record leads to them.
+#[derive(Clone, Copy)]
+struct Marking<'a> {
+    fields: &'a [Typed],
+    marks: &'a [bool; 64],
+}
+
+impl<'a> Marking<'a> {
+    // The type of the first marked field.
+    fn marked_field(&self, first: u32, count: u32) -> Option<u32>
+        ensures { MatchOption result (NoMark self.now.fields.now self.now.marks.now (Some (Kind.Fields first count))) (ToMark self.now.fields.now self.now.marks.now (Some (Kind.Fields first count))) }
+    {
+        self.fields
+            .get(first as usize..)?
+            .iter()
+            .take(count as usize)
+            .map(|field| field.kind)
+            .find(|t| marked(self.marks, *t))
+    }
+
+    // The end of the first link that leads to a marked type.
+    fn marked_link(&self, kind: Kind) -> Option<u32>
+        ensures { MatchOption result (NoMark self.now.fields.now self.now.marks.now (Some kind)) (ToMark self.now.fields.now self.now.marks.now (Some kind)) }
+    {
+        match kind {
+            Kind::Number | Kind::Void | Kind::Function => None,
+            Kind::Pointer { to } => marked(self.marks, to).then_some(to),
+            Kind::Fields { first, count } => self.marked_field(first, count),
         }
     }
-    None
-}
 
-// The end of the first link that leads to a marked type.
-fn marked_link(kind: Kind, fields: &[Typed], marks: &[bool; 64]) -> Option<u32>
-    ensures { MatchOption result (NoMark fields.now marks.now (Some kind)) (ToMark fields.now marks.now (Some kind)) }
-{
-    match kind {
-        Kind::Number | Kind::Void | Kind::Function => None,
-        Kind::Pointer { to } => marked(marks, to).then_some(to),
-        Kind::Fields { first, count } => marked_field(fields, marks, first, count),
+    fn due(&self, kind: Kind) -> bool
+        ensures { Decides result (Due self.now.fields.now self.now.marks.now (Some kind)) }
+    {
+        matches!(kind, Kind::Void | Kind::Function) || self.marked_link(kind).is_some()
     }
 }
 
-fn due(kind: Kind, fields: &[Typed], marks: &[bool; 64]) -> bool
-    ensures { Decides result (Due fields.now marks.now (Some kind)) }
-{
-    match kind {
-        Kind::Void | Kind::Function => true,
-        _ => marked_link(kind, fields, marks).is_some(),
-    }
-}
-
-// Marks each type that is due, and says whether one was new.
+// Marks each type that is due, and says whether one was new. No option: the flag has no value beside it.
 fn round(types: &[Kind], fields: &[Typed], marks: &mut [bool; 64]) -> bool
     requires { length types.now ≤ 64 }
     ensures { Round types.now fields.now marks.old (length types.now) marks.new result }
 {
     let mut changed = false;
-    for i in 0..types.len() {
-        if !marks[i] && due(types[i], fields, marks) {
+    // By place, since all marks are looked at while one is set.
+    for (i, kind) in types.iter().enumerate() {
+        if !marks[i] && (Marking { fields, marks }).due(*kind) {
             marks[i] = true;
             changed = true;
         }
@@ -80,9 +87,10 @@ pub fn next_link(parts: &Parts, sensitive: &[bool; 64], t: u32) -> Option<u32>
     ensures { MatchOption result (NoMark (content parts.now).fields sensitive.now (slice_get (content parts.now).types t)) (ToMark (content parts.now).fields sensitive.now (slice_get (content parts.now).types t)) }
 {
     let lists = parts.lists();
-    if (t as usize) < lists.types.len() {
-        marked_link(lists.types[t as usize], lists.fields, sensitive)
-    } else {
-        None
-    }
+    let kind = lists.types.get(t as usize).copied()?;
+    let marking = Marking {
+        fields: lists.fields,
+        marks: sensitive,
+    };
+    marking.marked_link(kind)
 }

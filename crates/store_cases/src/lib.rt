@@ -5,7 +5,6 @@
 mod tests {
     use array_store::ArrayStore;
     use hash_store::HashStore;
-    use hash_store::slot::Slot;
     use std::test::Fail;
     use stores::store::{NotTaken, Store};
     use window::Window;
@@ -41,7 +40,7 @@ mod tests {
     #[test]
     fn most_slots_of_a_hash_store(rt: HostRuntime) -> Result<(), Fail> {
         for n in [65_536, 65_537] {
-            let mut s = HashStore::new(vec![in rt.alloc(); Slot::Empty; n]?);
+            let mut s = HashStore::new(vec![in rt.alloc(); None; n]?);
             for i in 0..65_536u32 {
                 assert_eq!(rt; s.put(i.wrapping_mul(65_537), i), Ok(()));
             }

@@ -1,7 +1,7 @@
 -- Laws of the slots that count.
-use Rattle.std.proofs.Common.{◌≡◌, ℕ, zero, suc, ◌-◌, ◌<◌, min, List, [], ◌∷◌, ◌++◌, length, take, drop, set, replicate, sym, refl, ap, ◌∙◌, subst, ⊎_elim, le_refl, arith}
+use Rattle.std.proofs.Common.{◌≡◌, ℕ, zero, suc, ◌-◌, ◌<◌, min, List, [], ◌∷◌, ◌++◌, length, take, drop, set, replicate, sym, refl, ap, ◌∙◌, subst, ⊎_elim, arith}
 use native.Mathlib.Nat.{sub-zero}
-use Rattle.std.proofs.lemmas.List.{append-nil, drop_all, drop-set-lt, length-append, length-drop, length-replicate, length-set, length-take, take_all, take_at, take-replicate}
+use Rattle.std.proofs.lemmas.List.{append-nil, drop_all, drop-set-lt, length-append, length-drop, length-replicate, length-set, length-take, take_all, take_at, take_min, take-replicate}
 use Rattle.std.proofs.lemmas.Slice.{drop-append-drop}
 use Rattle.std.proofs.lemmas.Bool.{cases_lt}
 use Rattle.stores.specs.Slots.{SlotsKept, counted}
@@ -13,18 +13,6 @@ module _ {X : Type 0} where
   take_set (suc n) (x ∷ xs) zero y = refl
   take_set (suc n) (x ∷ xs) (suc i) y = ap (λ zs. x ∷ zs) (take_set n xs i y)
 
-  take_min : (n : ℕ) (xs : List X) → take (min (length xs) n) xs ≡ take n xs
-  take_min n xs = ⊎_elim
-      (λ lt. let e : min (length xs) n ≡ n = omega arith in rw e)
-      (λ le. let e : min (length xs) n ≡ length xs = omega arith in rw e (take_all (length xs) xs (le_refl (length xs)) ∙ sym (take_all n xs le)))
-      (cases_lt n (length xs))
-
-  take_same : (m n : ℕ) (y : X) → take m (replicate n y) ≡ replicate (min m n) y
-  take_same m n y = ⊎_elim
-      (λ lt. let e : min m n ≡ m = omega arith in rw e (take-replicate m n y (omega arith)))
-      (λ le. let e : min m n ≡ n = omega arith in rw e (take_all m (replicate n y) (rw (length-replicate n y) le)))
-      (cases_lt m n)
-
   pub counted_length : (xs : List X) → length (counted xs) ≡ min 65536 (length xs)
   unfolding counted
   counted_length xs = length-take 65536 xs
@@ -35,12 +23,16 @@ module _ {X : Type 0} where
 
   pub counted_replicate : (n : ℕ) (y : X) → counted (replicate n y) ≡ replicate (min 65536 n) y
   unfolding counted
-  counted_replicate n y = take_same 65536 n y
+  counted_replicate n y = sym (take_min 65536 (replicate n y)) ∙ rw length-replicate (take-replicate (min 65536 n) n y (omega arith))
 
   -- the part of the slots that `first_of` lends
-  pub counted_part : (xs : List X) (n : ℕ) → n ≡ min (length xs) 65536 → take (n - 0) xs ≡ counted xs
+  pub counted_front : (xs : List X) (n : ℕ) → n ≡ min (length xs) 65536 → take n xs ≡ counted xs
   unfolding counted
-  counted_part xs n e = rw (e, sub-zero) (take_min 65536 xs)
+  counted_front xs n e = let e : n ≡ min 65536 (length xs) = omega arith in rw e (take_min 65536 xs)
+
+  -- the same as a range from 0
+  pub counted_part : (xs : List X) (n : ℕ) → n ≡ min (length xs) 65536 → take (n - 0) xs ≡ counted xs
+  counted_part xs n e = rw sub-zero (counted_front xs n e)
 
   -- A write to a slot that counts keeps the slots.
   pub kept_set : (xs : List X) (i : ℕ) (y : X) → i < length (counted xs) → SlotsKept xs (set xs i y)

@@ -1,10 +1,23 @@
 // What a store is: its meaning, its calls and their laws.
-ghost use Rattle.std.specs.Prelude.{◌≡◌, ℕ, Bool, true, false, is_ok, Option};
+ghost use Rattle.std.specs.Prelude.{◌≡◌, ℕ, Bool, true, false, is_ok, codes, Some, Option};
 ghost use Rattle.stores.specs.Meaning.{Dropped, HeldTaken, Lasting, Put};
+
+use std::error::Error;
+use std::fmt;
 
 // The refusal of a put: the store doesn't take the address.
 #[derive(Clone, Copy, PartialEq, Eq, Debug)]
 pub struct NotTaken;
+
+impl fmt::Display for NotTaken {
+    ghost output = { λ _. Some (codes "not taken") };
+
+    fn fmt<W: fmt::Write>(&self, f: &mut fmt::Formatter<W>) -> fmt::Result {
+        f.write_str("not taken")
+    }
+}
+
+impl Error for NotTaken {}
 
 // Anything with this meaning that keeps these laws.
 pub trait Store {

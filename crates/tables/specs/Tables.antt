@@ -1,5 +1,6 @@
-use Rattle.std.specs.Prelude.{◌≡◌, ℕ, ◌+◌, ◌*◌, ◌<◌, ◌≤◌, Bool, false, List, [], ◌∷◌, length, take, Some, None, Option, slice_index_or}
-use Rattle.std.specs.List.{slice_get}
+use Rattle.std.specs.Prelude.{◌≡◌, ℕ, ◌+◌, ◌*◌, ◌<◌, ◌≤◌, Bool, false, List, [], ◌∷◌, length, map, replicate, take, Some, None, Option, slice_index_or, unwrap_or}
+use Rattle.std.specs.List.{slice_get, range_with_len}
+use Rattle.std.specs.Option.{option_map_or}
 use Rattle.content.specs.declared.kind.Kind.{Kind}
 use Rattle.content.specs.declared.global.Global.{Global}
 use Rattle.content.specs.declared.function.Function.{Function}
@@ -10,10 +11,10 @@ use Rattle.tables.specs.declared.layout.Local.{Local}
 use Rattle.tables.specs.declared.places.Span.{Span}
 use Rattle.tables.specs.declared.places.Places.{Places}
 
--- how many words globals take, one after another
+-- how many words globals take, one after another; where a type isn't sized, none
 abbrev pub words : List Kind → List Global → ℕ
 words types [] = 0
-words types (g ∷ gs) = size (slice_get types g.kind) * g.count + words types gs
+words types (g ∷ gs) = unwrap_or (size (slice_get types g.kind)) 0 * g.count + words types gs
 
 -- global k lies from the end of the one before it to the start of the one behind it
 pub record Placed (types : List Kind) (globals : List Global) (spans : List Span) : Type 0 where
@@ -34,14 +35,21 @@ abbrev pub mark_of : List Bool → Option ℕ → Bool
 mark_of marks None = false
 mark_of marks (Some t) = slice_index_or marks t false
 
--- what a step has to know of local x: whether its type is sensitive, and the size of what it points at
+-- what a step has to know of local x: whether its type is sensitive, and the size of what it points at, if that has one
 abbrev pub local_of : Content → List Bool → Function → ℕ → Local
 local_of c marks f x = record { sensitive = mark_of marks (local_type c.locals f x); size = size (target_kind c f x) }
 
+-- a function's eight locals
 abbrev pub layout_of : Content → List Bool → Function → List Local
-layout_of c marks f =
-    let at : ℕ → Local = local_of c marks f in
-    at 0 ∷ at 1 ∷ at 2 ∷ at 3 ∷ at 4 ∷ at 5 ∷ at 6 ∷ at 7 ∷ []
+layout_of c marks f = map (local_of c marks f) (range_with_len 0 8)
+
+-- a local of which nothing has to be known
+abbrev pub plain : Local
+plain = record { sensitive = false; size = None }
+
+-- the layout of function k; all plain where there is none
+abbrev pub layout_at : Content → List Bool → ℕ → List Local
+layout_at c marks k = option_map_or (layout_of c marks) (slice_get c.functions k) (replicate 8 plain)
 
 -- the table of layouts has each function's
 abbrev pub LaidOut : Content → List Bool → List (List Local) → Type 0

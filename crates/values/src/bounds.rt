@@ -1,8 +1,10 @@
 // The bounds that a pointer may be used within.
-ghost use Rattle.std.specs.Prelude.{◌≡◌, ◌<◌, ◌≤◌, MatchOption};
+ghost use Rattle.std.specs.Prelude.{◌≡◌, ◌<◌, ◌≤◌, MatchOption, Some};
+
+use std::fmt;
 
 // The words from `low` up to and without `high`: one at least, and all in the largest memory.
-#[derive(Clone, Copy, PartialEq, Eq)]
+#[derive(Clone, Copy, PartialEq, Eq, Debug)]
 pub struct Bounds {
     low: u32,
     high: u32,
@@ -32,5 +34,15 @@ impl Bounds {
         ensures { result ≡ self.high }
     {
         self.high
+    }
+}
+
+impl fmt::Display for Bounds {
+    ghost use Rattle.values.specs.Written.{written_bounds};
+
+    ghost output = { λ b. Some (written_bounds b) };
+
+    fn fmt<W: fmt::Write>(&self, f: &mut fmt::Formatter<W>) -> fmt::Result {
+        write!(f, "{}:{}", self.low, self.high)
     }
 }

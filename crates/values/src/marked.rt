@@ -6,7 +6,7 @@ use crate::bounds::Bounds;
 use std::fmt;
 
 // A word with a mark.
-#[derive(Clone, Copy, PartialEq, Eq)]
+#[derive(Clone, Copy, PartialEq, Eq, Debug)]
 pub enum Marked {
     // A function's number.
     Code(u32),
@@ -20,11 +20,7 @@ impl fmt::Display for Marked {
     fn fmt<W: fmt::Write>(&self, f: &mut fmt::Formatter<W>) -> fmt::Result {
         match *self {
             Marked::Code(function) => write!(f, "c:{function}"),
-            Marked::Data(word, bounds) => {
-                let low = bounds.low();
-                let high = bounds.high();
-                write!(f, "d:{word}:{low}:{high}")
-            }
+            Marked::Data(word, bounds) => write!(f, "d:{word}:{bounds}"),
         }
     }
 }

@@ -27,12 +27,8 @@ impl<S> Window<S> {
     pub fn into_below(self) -> S
         ensures { result ≡ self.below }
     {
-        let Window {
-            base: _,
-            len: _,
-            below: inner,
-        } = self;
-        inner
+        let Window { below, .. } = self;
+        below
     }
 
     // The address below, if this one is shown.
@@ -61,17 +57,11 @@ impl<S: Store> Store for Window<S> {
     ghost lasting = { window_lasting S.Store.kept S.Store.lasting S.Store.entry };
 
     fn get(&self, a: u32) -> Option<S::Entry> {
-        match self.place(a) {
-            Some(at) => self.below.get(at),
-            None => None,
-        }
+        self.below.get(self.place(a)?)
     }
 
     fn takes(&self, a: u32) -> bool {
-        match self.place(a) {
-            Some(at) => self.below.takes(at),
-            None => false,
-        }
+        self.place(a).is_some_and(|at| self.below.takes(at))
     }
 
     // Besides what every store promises: it is a put below.
@@ -82,10 +72,8 @@ impl<S: Store> Store for Window<S> {
         ensures kept { WindowKept S.kept S.entry self.old self.new }
         ensures below { is_ok result ≡ true → Put (S.entry self.old.below) (S.entry self.new.below) (S.taken self.old.below) (S.taken self.new.below) (self.old.base + a) v }
     {
-        match self.place(a) {
-            Some(at) => self.below.put(at, v),
-            None => Err(NotTaken),
-        }
+        let at = self.place(a).ok_or(NotTaken)?;
+        self.below.put(at, v)
     }
 
     // Besides what every store promises: it is a drop below, or nothing at all.

@@ -1,36 +1,33 @@
-use Rattle.std.proofs.Common.{◌≡◌, ℕ, zero, suc, ◌+◌, ◌*◌, ◌<◌, ◌≤◌, Bool, true, false, ◌&&◌, List, [], ◌++◌, length, take, drop, Some, Ok, Option, sym, refl, ap, ◌∙◌, subst, mul-zero, mul-one, mul-add, arith, eqb-true}
+use Rattle.std.proofs.Common.{◌≡◌, ℕ, zero, suc, ◌+◌, ◌*◌, ◌<◌, ◌≤◌, true, List, [], ◌++◌, length, drop, Some, Ok, Option, sym, refl, ap, ◌∙◌, subst, mul-zero, mul-one, mul-add, arith, rules}
 use Rattle.std.specs.List.{flat_map}
 use Rattle.std.proofs.lemmas.List.{append_assoc, append-nil, drop-drop, drop_all, get_or-drop, length-drop}
-use Rattle.records.specs.Words.{word_at, bytes_of, spell, front_words}
+use Rattle.std.proofs.lemmas.Bool.Decides.{nat_tests}
+use Rattle.std.proofs.lemmas.Grind.{flat_map-append}
+use Rattle.records.specs.Words.{word_at, bytes_of, spell, words_from}
 use Rattle.records.specs.Records.{records}
-use Rattle.records.proofs.Spelling.{Bytes, words_from, spell_from}
+use Rattle.records.proofs.Spelling.{Bytes, spell_from}
 use Rattle.records.proofs.Runs.{led, ok_same}
 use Rattle.content.specs.Records.{kind_from, kind_words, typed_from, typed_words, global_from, global_words, function_from, function_words, instruction_from, instruction_words}
 use Rattle.content.specs.Faithful.{kind_faithful, typed_faithful, global_faithful, function_faithful, instruction_faithful}
 use Rattle.header.specs.declared.counts.Counts.{Counts}
 use Rattle.header.specs.Header.{fields_at, globals_at, locals_at, functions_at, code_at, end_at, counts_in, laid, Headed}
-use Rattle.parts.specs.Content.{Content}
+use Rattle.parts.specs.Content.{Content, lengths}
 use Rattle.parts.specs.Holding.{Holds}
-use Rattle.writing.specs.Image.{image_of, lengths, header_words}
-use Rattle.writing.proofs.Placing.{joined-++}
+use Rattle.writing.specs.Image.{image_of, header_words}
 
-front_there : (w : ℕ) (s : List ℕ) → w ≤ 4 → take w (front_words s) ≡ words_from s 0 w
-front_there zero s h = refl
-front_there (suc zero) s h = refl
-front_there (suc (suc zero)) s h = refl
-front_there (suc (suc (suc zero))) s h = refl
-front_there (suc (suc (suc (suc zero)))) s h = refl
-front_there (suc (suc (suc (suc (suc w))))) s h = absurd (omega arith)
+length_words : (n : ℕ) (s : List ℕ) (i : ℕ) → length (words_from s i n) ≡ n
+length_words zero s i = refl
+length_words (suc n) s i = ap suc (length_words n s (i + 4))
 
 bytes_behind : (s : List ℕ) (k : ℕ) → Bytes s → Bytes (drop k s)
 bytes_behind s k t i = subst (λ b. b < 256) (sym (get_or-drop k s i 0)) (t (k + i))
 
-module _ {R : Type 0} (meant : List ℕ → Option R) (spelt : R → List ℕ) (w : ℕ) (narrow : w ≤ 4) (faithful : (ws : List ℕ) (r : R) → length ws ≡ 4 → meant ws ≡ Some r → spelt r ≡ take w ws) where
+module _ {R : Type 0} (meant : List ℕ → Option R) (spelt : R → List ℕ) (w : ℕ) (faithful : (ws : List ℕ) (r : R) → length ws ≡ w → meant ws ≡ Some r → spelt r ≡ ws) where
   -- a record's bytes, and those behind it
-  record_there : (s : List ℕ) (r : R) → Bytes s → 4 * w ≤ length s → meant (front_words s) ≡ Some r → s ≡ spell (spelt r) ++ drop (4 * w) s
+  record_there : (s : List ℕ) (r : R) → Bytes s → 4 * w ≤ length s → meant (words_from s 0 w) ≡ Some r → s ≡ spell (spelt r) ++ drop (4 * w) s
   record_there s r t h m =
       let z : 0 + 4 * w ≡ 4 * w = omega arith in
-      let e : spelt r ≡ words_from s 0 w = faithful (front_words s) r refl m ∙ front_there w s narrow in
+      let e : spelt r ≡ words_from s 0 w = faithful (words_from s 0 w) r (length_words w s 0) m in
       spell_from w s 0 t (omega arith) ∙ ap (λ ws. spell ws ++ drop (0 + 4 * w) s) (sym e) ∙ ap (λ k. spell (spelt r) ++ drop k s) z
 
   list_there : (n : ℕ) (s : List ℕ) (rs : List R) → Bytes s → 4 * (w * n) ≤ length s → records meant w n s ≡ Ok rs → (s ≡ spell (flat_map spelt rs) ++ drop (4 * (w * n)) s) × (length rs ≡ n)
@@ -40,12 +37,12 @@ module _ {R : Type 0} (meant : List ℕ → Option R) (spelt : R → List ℕ) (
       (ap (λ k. drop k s) (sym z) ∙ ap (λ xs. spell (flat_map spelt xs) ++ drop (4 * (w * 0)) s) n, ap length (sym n))
   list_there (suc n) s rs t h e =
       let k : 4 * w + 4 * (w * n) ≡ 4 * (w * suc n) = omega (arith, mul-add w n 1, mul-one w) in
-      let l = led (meant (front_words s)) (records meant w n (drop (4 * w) s)) rs e in
+      let l = led (meant (words_from s 0 w)) (records meant w n (drop (4 * w) s)) rs e in
       let rest = drop (4 * (w * suc n)) s in
       let a : s ≡ spell (spelt l.head) ++ drop (4 * w) s = record_there s l.head t (omega arith) l.head_is in
       let ih = list_there n (drop (4 * w) s) l.tail (bytes_behind s (4 * w) t) (omega (arith, length-drop (4 * w) s)) l.tail_is in
       let b : drop (4 * w) s ≡ spell (flat_map spelt l.tail) ++ rest = ih.0 ∙ ap (λ d. spell (flat_map spelt l.tail) ++ d) (drop-drop (4 * (w * n)) (4 * w) s ∙ ap (λ i. drop i s) k) in
-      let j : spell (spelt l.head) ++ (spell (flat_map spelt l.tail) ++ rest) ≡ spell (flat_map spelt rs) ++ rest = sym (append_assoc (spell (spelt l.head)) (spell (flat_map spelt l.tail)) rest) ∙ ap (λ bs. bs ++ rest) (sym (joined-++ bytes_of (spelt l.head) (flat_map spelt l.tail))) ∙ ap (λ xs. spell (flat_map spelt xs) ++ rest) (sym l.all_is) in
+      let j : spell (spelt l.head) ++ (spell (flat_map spelt l.tail) ++ rest) ≡ spell (flat_map spelt rs) ++ rest = sym (append_assoc (spell (spelt l.head)) (spell (flat_map spelt l.tail)) rest) ∙ ap (λ bs. bs ++ rest) (sym (flat_map-append bytes_of (spelt l.head) (flat_map spelt l.tail))) ∙ ap (λ xs. spell (flat_map spelt xs) ++ rest) (sym l.all_is) in
       (a ∙ ap (λ d. spell (spelt l.head) ++ d) b ∙ j, ap length l.all_is ∙ ap suc ih.1)
 
   list_from : (n at end : ℕ) (s : List ℕ) (rs : List R) → Bytes s → end ≡ at + 4 * (w * n) → end ≤ length s → records meant w n (drop at s) ≡ Ok rs → (drop at s ≡ spell (flat_map spelt rs) ++ drop end s) × (length rs ≡ n)
@@ -53,12 +50,8 @@ module _ {R : Type 0} (meant : List ℕ → Option R) (spelt : R → List ℕ) (
       let l = list_there n (drop at s) rs (bytes_behind s at t) (omega (arith, length-drop at s)) r in
       (l.0 ∙ ap (λ d. spell (flat_map spelt rs) ++ d) (drop-drop (4 * (w * n)) at s ∙ ap (λ i. drop i s) (sym e)), l.1)
 
-both : (b c : Bool) → b && c ≡ true → (b ≡ true) × (c ≡ true)
-both true c e = (refl, e)
-both false c e = let z : false ≡ true = e in absurd (grind arith)
-
 -- the words that say where the lists start and the image ends
-record Starts (s : List ℕ) (n : Counts) : Type 0 where
+record Laid (s : List ℕ) (n : Counts) : Type 0 where
   types : word_at s 12 ≡ 60
   fields : word_at s 20 ≡ fields_at n
   globals : word_at s 28 ≡ globals_at n
@@ -67,23 +60,8 @@ record Starts (s : List ℕ) (n : Counts) : Type 0 where
   code : word_at s 52 ≡ code_at n
   end : length s ≡ end_at n
 
-starts : (s : List ℕ) (n : Counts) → laid s n ≡ true → Starts s n
-starts s n e =
-    let p6 = both _ _ e in
-    let p5 = both _ _ p6.0 in
-    let p4 = both _ _ p5.0 in
-    let p3 = both _ _ p4.0 in
-    let p2 = both _ _ p3.0 in
-    let p1 = both _ _ p2.0 in
-    record {
-      types = eqb-true _ _ p1.0;
-      fields = eqb-true _ _ p1.1;
-      globals = eqb-true _ _ p2.1;
-      locals = eqb-true _ _ p3.1;
-      functions = eqb-true _ _ p4.1;
-      code = eqb-true _ _ p5.1;
-      end = eqb-true _ _ p6.1;
-    }
+starts : (s : List ℕ) (n : Counts) → laid s n ≡ true → Laid s n
+starts s n e = search (rules, nat_tests)
 
 -- the header's words
 header_there : (s : List ℕ) (m d : ℕ) → Headed s m d (counts_in s) → words_from s 0 15 ≡ header_words m d (counts_in s)
@@ -93,7 +71,7 @@ header_there s m d h =
 
 -- parts that follow one another
 parts_spelt : (h a b c d e f : List ℕ) → spell (h ++ (a ++ (b ++ (c ++ (d ++ (e ++ f)))))) ≡ spell h ++ (spell a ++ (spell b ++ (spell c ++ (spell d ++ (spell e ++ spell f)))))
-parts_spelt h a b c d e f = simp (joined-++ bytes_of)
+parts_spelt h a b c d e f = simp (flat_map-append bytes_of)
 
 module _ (s s1 s2 s3 s4 s5 s6 s7 h a b c d e f : List ℕ) where
   parts_joined : s ≡ spell h ++ s1 → s1 ≡ spell a ++ s2 → s2 ≡ spell b ++ s3 → s3 ≡ spell c ++ s4 → s4 ≡ spell d ++ s5 → s5 ≡ spell e ++ s6 → s6 ≡ spell f ++ s7 → s7 ≡ [] → s ≡ spell (h ++ (a ++ (b ++ (c ++ (d ++ (e ++ f))))))
@@ -112,12 +90,12 @@ held_image s c t h =
     let n = counts_in s in
     let l = h.listed in
     let p = starts s n h.headed.in_place in
-    let types = list_from kind_from kind_words 3 (omega arith) kind_faithful n.types 60 (fields_at n) s c.types t (omega arith) (omega (arith, p.end)) l.types_are in
-    let fields = list_from typed_from typed_words 1 (omega arith) typed_faithful n.fields (fields_at n) (globals_at n) s c.fields t (omega arith) (omega (arith, p.end)) l.fields_are in
-    let globals = list_from global_from global_words 2 (omega arith) global_faithful n.globals (globals_at n) (locals_at n) s c.globals t (omega arith) (omega (arith, p.end)) l.globals_are in
-    let locals = list_from typed_from typed_words 1 (omega arith) typed_faithful n.locals (locals_at n) (functions_at n) s c.locals t (omega arith) (omega (arith, p.end)) l.locals_are in
-    let functions = list_from function_from function_words 4 (omega arith) function_faithful n.functions (functions_at n) (code_at n) s c.functions t (omega arith) (omega (arith, p.end)) l.functions_are in
-    let code = list_from instruction_from instruction_words 4 (omega arith) instruction_faithful n.code (code_at n) (end_at n) s c.code t (omega arith) (omega (arith, p.end)) l.code_is in
+    let types = list_from kind_from kind_words 3 kind_faithful n.types 60 (fields_at n) s c.types t (omega arith) (omega (arith, p.end)) l.types_are in
+    let fields = list_from typed_from typed_words 1 typed_faithful n.fields (fields_at n) (globals_at n) s c.fields t (omega arith) (omega (arith, p.end)) l.fields_are in
+    let globals = list_from global_from global_words 2 global_faithful n.globals (globals_at n) (locals_at n) s c.globals t (omega arith) (omega (arith, p.end)) l.globals_are in
+    let locals = list_from typed_from typed_words 1 typed_faithful n.locals (locals_at n) (functions_at n) s c.locals t (omega arith) (omega (arith, p.end)) l.locals_are in
+    let functions = list_from function_from function_words 4 function_faithful n.functions (functions_at n) (code_at n) s c.functions t (omega arith) (omega (arith, p.end)) l.functions_are in
+    let code = list_from instruction_from instruction_words 4 instruction_faithful n.code (code_at n) (end_at n) s c.code t (omega arith) (omega (arith, p.end)) l.code_is in
     let same : lengths c ≡ n = same_lengths c n types.1 fields.1 globals.1 locals.1 functions.1 code.1 in
     let words : words_from s 0 15 ≡ header_words c.memory c.depth (lengths c) = header_there s c.memory c.depth h.headed ∙ ap (header_words c.memory c.depth) (sym same) in
     let front : s ≡ spell (header_words c.memory c.depth (lengths c)) ++ drop 60 s = spell_from 15 s 0 t h.headed.long ∙ ap (λ ws. spell ws ++ drop 60 s) words in

@@ -1,6 +1,7 @@
-use Rattle.std.proofs.Common.{◌≡◌, ℕ, ◌+◌, ◌-◌, ◌*◌, ◌<◌, ◌≤◌, List, [], ◌∷◌, ◌++◌, length, get_or, take, drop, sym, refl, ap, ◌∙◌, mul-le-mul_left, mul-zero, mul-one, mul-add, arith}
+use Rattle.std.proofs.Common.{◌≡◌, ℕ, ◌+◌, ◌*◌, ◌<◌, ◌≤◌, List, [], ◌∷◌, ◌++◌, length, get_or, take, drop, sym, refl, ap, ◌∙◌, mul-le-mul_left, mul-zero, mul-one, mul-add, mul_assoc, arith}
 use Rattle.std.specs.List.{flat_map}
 use Rattle.std.proofs.lemmas.List.{length-append, length-take-le, append_assoc, take-append-drop, take_at, drop_at, drop-drop, take_more, flat_map_more}
+use Rattle.std.proofs.lemmas.Grind.{flat_map-append}
 use Rattle.records.specs.Words.{bytes_of, spell}
 use Rattle.writing.specs.Putting.{placed}
 
@@ -27,10 +28,6 @@ pub placed_first : (s bs : List ℕ) → placed s 0 bs ≡ bs ++ drop (length bs
 unfolding placed
 placed_first s bs = let e : 0 + length bs ≡ length bs = omega arith in rw e refl
 
-pub joined-++ : {X : Type 0} (f : X → List ℕ) (xs ys : List X) → flat_map f (xs ++ ys) ≡ flat_map f xs ++ flat_map f ys
-joined-++ f [] ys = refl
-joined-++ f (x ∷ xs) ys = ap (λ t. f x ++ t) (joined-++ f xs ys) ∙ sym (append_assoc (f x) (flat_map f xs) (flat_map f ys))
-
 pub length_joined : {X : Type 0} (f : X → List ℕ) (w : ℕ) → ((x : X) → length (f x) ≡ w) → (xs : List X) → length (flat_map f xs) ≡ w * length xs
 length_joined f w h [] = sym (mul-zero w)
 length_joined f w h (x ∷ xs) =
@@ -41,37 +38,29 @@ length_joined f w h (x ∷ xs) =
 pub length_spell : (ws : List ℕ) → length (spell ws) ≡ 4 * length ws
 length_spell ws = length_joined bytes_of 4 (λ x. refl) ws
 
--- one more word
-pub word_more : (s out ws : List ℕ) (at k w : ℕ) → at + 4 * length ws ≤ length s → k < length ws → w ≡ get_or ws k 0 → out ≡ placed s at (spell (take k ws)) → placed out (at + 4 * k) (bytes_of w) ≡ placed s at (spell (take (k + 1) ws))
-word_more s out ws at k w h l e p =
-    let t : take (k + 1) ws ≡ take k ws ++ w ∷ [] = take_more ws k 0 l ∙ ap (λ y. take k ws ++ y ∷ []) (sym e) in
-    let j : spell (take k ws ++ w ∷ []) ≡ spell (take k ws) ++ bytes_of w = sym (flat_map_more bytes_of [] (take k ws) w) in
-    let n : length (spell (take k ws)) ≡ 4 * k = length_spell (take k ws) ∙ ap (λ m. 4 * m) (length-take-le k ws (omega arith)) in
-    let q = placed_more s (spell (take k ws)) (bytes_of w) at (at + 4 * k) (omega arith) (omega arith) in
-    ap (λ o. placed o (at + 4 * k) (bytes_of w)) p ∙ q ∙ ap (placed s at) (sym j ∙ ap spell (sym t))
-
--- one more record
-pub record_more : {X : Type 0} (f : X → List ℕ) (w : ℕ) → ((x : X) → length (f x) ≡ w) → (xs : List X) (i start at : ℕ) (x : X) (s out ws : List ℕ) → start + 4 * (w * length xs) ≤ length s → i < length xs → x ≡ get_or xs i x → ws ≡ f x → at ≡ start + 4 * (w * i) → out ≡ placed s start (spell (flat_map f (take i xs))) → placed out at (spell ws) ≡ placed s start (spell (flat_map f (take (i + 1) xs)))
-record_more f w h xs i start at x s out ws fits l e ew ea eo =
-    let t : take (i + 1) xs ≡ take i xs ++ x ∷ [] = take_more xs i x l ∙ ap (λ y. take i xs ++ y ∷ []) (sym e) in
-    let j : flat_map f (take i xs ++ x ∷ []) ≡ flat_map f (take i xs) ++ f x = sym (flat_map_more f [] (take i xs) x) in
-    let b : spell (flat_map f (take (i + 1) xs)) ≡ spell (flat_map f (take i xs)) ++ spell ws = ap (λ y. spell (flat_map f y)) t ∙ ap spell j ∙ joined-++ bytes_of (flat_map f (take i xs)) (f x) ∙ ap (λ y. spell (flat_map f (take i xs)) ++ spell y) (sym ew) in
-    let n : length (spell (flat_map f (take i xs))) ≡ 4 * (w * i) = length_spell (flat_map f (take i xs)) ∙ ap (λ m. 4 * m) (length_joined f w h (take i xs) ∙ ap (λ m. w * m) (length-take-le i xs (omega arith))) in
+-- one more piece, of pieces that are all as long
+pub piece_more : {X : Type 0} (g : X → List ℕ) (w : ℕ) → ((x : X) → length (g x) ≡ w) → (xs : List X) (i start at : ℕ) (x d : X) (s out : List ℕ) → start + w * length xs ≤ length s → i < length xs → x ≡ get_or xs i d → at ≡ start + w * i → out ≡ placed s start (flat_map g (take i xs)) → placed out at (g x) ≡ placed s start (flat_map g (take (i + 1) xs))
+piece_more g w h xs i start at x d s out fits l e ea eo =
+    let front = flat_map g (take i xs) in
+    let more : front ++ g x ≡ flat_map g (take (i + 1) xs) = flat_map_more g [] (take i xs) x ∙ ap (λ y. flat_map g (take i xs ++ y ∷ [])) e ∙ ap (flat_map g) (sym (take_more xs i d l)) in
+    let n : length front ≡ w * i = length_joined g w h (take i xs) ∙ ap (λ m. w * m) (length-take-le i xs (omega arith)) in
     let le : w * i ≤ w * length xs = mul-le-mul_left w (omega arith) in
-    let q = placed_more s (spell (flat_map f (take i xs))) (spell ws) start at (omega arith) (omega arith) in
-    ap (λ o. placed o at (spell ws)) eo ∙ q ∙ ap (placed s start) (sym b)
+    ap (λ o. placed o at (g x)) eo ∙ placed_more s front (g x) start at (omega arith) (omega arith) ∙ ap (placed s start) more
 
-pub same_words : (n w : ℕ) (ws t : List ℕ) → n ≡ w → take w ws ≡ t → take (n - 0) ws ≡ t
-same_words n w ws t e h = let z : n - 0 ≡ n = omega arith in cc
+-- the bytes of a record's words
+abbrev pub bytes : {X : Type 0} → (X → List ℕ) → X → List ℕ
+bytes f x = spell (f x)
 
--- the place of a record among others
-pub place_first : (w s : ℕ) → s ≡ s + 4 * (w * 0)
-place_first w s = omega (arith, mul-zero w)
+pub spelt_joined : {X : Type 0} (f : X → List ℕ) (xs : List X) → flat_map (bytes f) xs ≡ spell (flat_map f xs)
+spelt_joined f [] = refl
+spelt_joined f (x ∷ xs) = ap (λ t. spell (f x) ++ t) (spelt_joined f xs) ∙ sym (flat_map-append bytes_of (f x) (flat_map f xs))
 
-pub place_fits : (w i n s len at : ℕ) → at ≡ s + 4 * (w * i) → i < n → s + 4 * (w * n) ≤ len → at + 4 * w ≤ len
-place_fits w i n s len at e l h =
-    let a : i + 1 ≤ n = omega arith in
-    omega (arith, mul-le-mul_left w a, mul-add w i 1, mul-one w)
+-- the places of n records of w words
+pub place_first : (w s : ℕ) → s ≡ s + 4 * w * 0
+place_first w s = omega (arith, mul-zero (4 * w))
 
-pub place_next : (w i s at : ℕ) → at ≡ s + 4 * (w * i) → at + 4 * w ≡ s + 4 * (w * (i + 1))
-place_next w i s at e = omega (arith, mul-add w i 1, mul-one w)
+pub place_next : (w i s at : ℕ) → at ≡ s + 4 * w * i → at + 4 * w ≡ s + 4 * w * (i + 1)
+place_next w i s at e = omega (arith, mul-add (4 * w) i 1, mul-one (4 * w))
+
+pub place_last : (w n s : ℕ) → s + 4 * (w * n) ≡ s + 4 * w * n
+place_last w n s = ap (λ m. s + m) (sym (mul_assoc 4 w n))

@@ -1,28 +1,12 @@
-use Rattle.std.proofs.Common.{◌≡◌, ℕ, ◌+◌, ◌≤◌, List, ◌++◌, length, take, drop, refl, ◌∙◌, arith}
-use Rattle.std.proofs.lemmas.List.{length-append, length-take}
+use Rattle.std.proofs.Common.{◌≡◌, ℕ, ◌+◌, ◌≤◌, List, ◌++◌, length, drop, refl, ◌∙◌, arith}
+use Rattle.std.proofs.lemmas.List.{length-append}
 use Rattle.records.specs.Words.{spell}
 use Rattle.header.specs.Header.{end_at}
-use Rattle.parts.specs.Content.{Content, content}
-use Rattle.parts.specs.declared.parts.Parts.{Parts}
-use Rattle.writing.specs.Image.{image_of, lengths, header_words, list_words}
-use Rattle.writing.specs.Putting.{placed, Few}
+use Rattle.parts.specs.Content.{Content, lengths}
+use Rattle.writing.specs.Image.{image_of, header_words, list_words}
+use Rattle.writing.specs.Putting.{placed}
 use Rattle.writing.proofs.Placing.{placed_first, length_spell}
 use Rattle.writing.proofs.Lists.{words_more, length_lists}
-
-taken_few : {X : Type 0} (n m : ℕ) (xs : List X) → n ≤ m → length (take n xs) ≤ m
-taken_few n m xs h = omega (arith, length-take n xs)
-
-pub few : (p : Parts) → Few (lengths (content p))
-few p =
-    let h = p.header in
-    record {
-      few_types = taken_few _ 64 p.types h.few_types;
-      few_fields = taken_few _ 256 p.fields h.few_fields;
-      few_globals = taken_few _ 64 p.globals h.few_globals;
-      few_locals = taken_few _ 256 p.locals h.few_locals;
-      few_functions = taken_few _ 64 p.functions h.few_functions;
-      few_code = taken_few _ 1024 p.code h.few_code;
-    }
 
 pub length_image : (c : Content) → length (image_of c) ≡ end_at (lengths c)
 unfolding image_of

@@ -4,11 +4,7 @@ use Rattle.records.specs.Words.{spell}
 use Rattle.content.specs.Records.{kind_words, typed_words, global_words, function_words, instruction_words}
 use Rattle.header.specs.declared.counts.Counts.{Counts}
 use Rattle.header.specs.Header.{fields_at, globals_at, locals_at, functions_at, code_at}
-use Rattle.parts.specs.Content.{Content}
-
--- how many records each list has
-abbrev pub lengths : Content → Counts
-lengths c = record { types = length c.types; fields = length c.fields; globals = length c.globals; locals = length c.locals; functions = length c.functions; code = length c.code }
+use Rattle.parts.specs.Content.{Content, lengths}
 
 -- version, memory size, depth, then start and count of each list
 abbrev pub header_words : ℕ → ℕ → Counts → List ℕ

@@ -3,13 +3,14 @@
 
 ghost use Rattle.std.specs.Prelude.{◌≡◌, ◌≤◌, ◌++◌, length, drop};
 ghost use Rattle.records.specs.Words.{spell};
-ghost use Rattle.header.specs.Header.{end_at};
-ghost use Rattle.parts.specs.Content.{content, viewed};
-ghost use Rattle.writing.specs.Image.{image_of, Written, lengths, header_words, list_words};
-ghost use Rattle.writing.specs.Putting.{placed, Few};
+ghost use Rattle.header.specs.Header.{starts_of, end_at};
+ghost use Rattle.parts.specs.Content.{content, lengths, viewed};
+ghost use Rattle.writing.specs.Image.{image_of, Written, header_words, list_words};
+ghost use Rattle.writing.specs.Putting.{placed};
 
 use crate::putting::{put_list, put_words};
-use header::counts::Counts;
+use header::header::Header;
+use header::starts::Starts;
 use parts::lists::Lists;
 use parts::parts::Parts;
 
@@ -19,92 +20,62 @@ mod putting;
 #[derive(Clone, Copy, PartialEq, Eq)]
 pub struct TooShort;
 
-fn counted(lists: Lists) -> Counts
-    ensures { result ≡ lengths (viewed lists.entry) }
+fn header_words(header: Header) -> [u32; 15]
+    ensures { result ≡ header_words header.memory header.depth header.counts }
 {
-    Counts {
-        types: lists.types.len(),
-        fields: lists.fields.len(),
-        globals: lists.globals.len(),
-        locals: lists.locals.len(),
-        functions: lists.functions.len(),
-        code: lists.code.len(),
-    }
-}
-
-fn header_words(memory: u32, depth: u32, n: Counts) -> [u32; 15]
-    requires { Few n }
-    ensures { result ≡ header_words memory depth n }
-{
-    let fields = 60 + 12 * n.types;
-    let globals = fields + 4 * n.fields;
-    let locals = globals + 8 * n.globals;
-    let functions = locals + 4 * n.locals;
-    let code = functions + 16 * n.functions;
+    let (n, at) = (header.counts(), header.starts());
     [
         1,
-        memory,
-        depth,
-        60,
+        header.memory(),
+        header.depth(),
+        at.types as u32,
         n.types as u32,
-        fields as u32,
+        at.fields as u32,
         n.fields as u32,
-        globals as u32,
+        at.globals as u32,
         n.globals as u32,
-        locals as u32,
+        at.locals as u32,
         n.locals as u32,
-        functions as u32,
+        at.functions as u32,
         n.functions as u32,
-        code as u32,
+        at.code as u32,
         n.code as u32,
     ]
 }
 
-fn end_at(n: Counts) -> usize
-    requires { Few n }
-    ensures { result ≡ end_at n }
+// Puts the six lists where they start.
+fn put_lists(out: &mut [u8], at: Starts, lists: Lists)
+    requires starts { at ≡ starts_of (lengths (viewed lists)) }
+    requires fits { end_at (lengths (viewed lists)) ≤ length out.old }
+    ensures { out.new ≡ placed out.old 60 (spell (list_words (viewed lists.entry))) }
 {
-    60 + 12 * n.types + 4 * n.fields + 8 * n.globals + 4 * n.locals + 16 * n.functions + 16 * n.code
+    put_list(out, at.types, lists.types);
+    put_list(out, at.fields, lists.fields);
+    put_list(out, at.globals, lists.globals);
+    put_list(out, at.locals, lists.locals);
+    put_list(out, at.functions, lists.functions);
+    put_list(out, at.code, lists.code);
 }
 
-// Puts the six lists behind the header and answers where they end.
-fn put_lists(out: &mut [u8], lists: Lists) -> usize
-    requires { end_at (lengths (viewed lists)) ≤ length out.old }
-    ensures put { out.new ≡ placed out.old 60 (spell (list_words (viewed lists.entry))) }
-    ensures end { result ≡ end_at (lengths (viewed lists.entry)) }
-{
-    let fields = put_list(out, 60, lists.types);
-    let globals = put_list(out, fields, lists.fields);
-    let locals = put_list(out, globals, lists.globals);
-    let functions = put_list(out, locals, lists.locals);
-    let code = put_list(out, functions, lists.functions);
-    put_list(out, code, lists.code)
-}
-
-fn image_len(parts: &Parts) -> usize
-    ensures { result ≡ length (image_of (content parts.now)) }
-{
-    end_at(counted(parts.lists()))
-}
-
-// Puts the image into bytes that are enough and answers its length.
-fn put_image(out: &mut [u8], parts: &Parts) -> usize
+// Puts the image into bytes that are enough.
+fn put_image(out: &mut [u8], parts: &Parts)
     requires { length (image_of (content parts.now)) ≤ length out.old }
-    ensures put { out.new ≡ image_of (content parts.now) ++ drop (length (image_of (content parts.now))) out.old }
-    ensures end { result ≡ length (image_of (content parts.now)) }
+    ensures { out.new ≡ image_of (content parts.now) ++ drop (length (image_of (content parts.now))) out.old }
 {
-    let lists = parts.lists();
-    let words = header_words(lists.memory, lists.depth, counted(lists));
-    put_words(out, 0, &words);
-    put_lists(out, lists)
+    let header = parts.header();
+    put_words(out, 0, &header_words(header));
+    put_lists(out, header.starts(), parts.lists());
 }
 
 // Puts the image at the start of `out` and answers its length.
+#[tactic(auto, using(crate::proofs::Whole::length_image))]
 pub fn write_image(parts: &Parts, out: &mut [u8]) -> Result<usize, TooShort>
     ensures { Written (image_of (content parts.now)) out.old out.new result }
 {
-    if out.len() < image_len(parts) {
+    let end = parts.header().starts().end;
+    if out.len() < end {
         return Err(TooShort);
     }
-    Ok(put_image(out, parts))
+    put_image(out, parts);
+    Ok(end)
 }

@@ -17,23 +17,19 @@ pub(crate) fn put_words(out: &mut [u8], at: usize, words: &[u32])
     requires { at + 4 * length words.now ≤ length out.old }
     ensures { out.new ≡ placed out.old at (spell words.now) }
 {
-    for k in 0..words.len() {
-        put_word(out, at + 4 * k, words[k]);
+    for (k, word) in words.iter().enumerate() {
+        put_word(out, at + 4 * k, *word);
     }
 }
 
-// Puts the records one after another and answers the place behind them.
-pub(crate) fn put_list<R: Record>(out: &mut [u8], start: usize, records: &[R]) -> usize
-    requires { start + 4 * (R.width * length records.now) ≤ length out.old }
-    ensures put { out.new ≡ placed out.old start (spell (flat_map R.spelt records.now)) }
-    ensures end { result ≡ start + 4 * (R.width * length records.now) }
+// Puts the records one after another. `at` runs on: chunks of `out` in a zip would be written through an adapter that no proof sees through.
+pub(crate) fn put_list<R: Record<N>, const N: usize>(out: &mut [u8], start: usize, records: &[R])
+    requires { start + 4 * (N * length records.now) ≤ length out.old }
+    ensures { out.new ≡ placed out.old start (spell (flat_map R.spelt records.now)) }
 {
-    let n = R::words();
     let mut at = start;
-    for i in 0..records.len() {
-        let words = records[i].write();
-        put_words(out, at, &words[0..n]);
-        at += 4 * n;
+    for record in records {
+        put_words(out, at, &record.write());
+        at += 4 * N;
     }
-    at
 }

@@ -10,7 +10,7 @@ use Rattle.desk.proofs.doing.sensitive_types.Goals as goal
 use Rattle.desk.proofs.doing.sensitive_types.Goals.{else-is_sensitive, then-is_sensitive+in_ok-number+in_ok-push_str}
 
 few_types : (m : Module) → length (said m).types ≤ 64
-few_types m = let few : m.parts.header.counts.types ≤ 64 = m.parts.header.few_types in omega (arith, length-take m.parts.header.counts.types m.parts.types)
+few_types m = let few : m.parts.header.counts.types ≤ 64 = m.parts.header.few.few_types in omega (arith, length-take m.parts.header.counts.types m.parts.types)
 
 pub overflow_cast-types : goal.overflow_cast-types
 overflow_cast-types c = omega (arith, ap (λ (k : Content). length k.types) c.lists.ensures, few_types c.args.held.now)

@@ -1,37 +1,29 @@
-use Rattle.std.proofs.Common.{◌≡◌, ◌+◌, ◌*◌, ◌++◌, length, drop, Ok, sym, refl, ap, ◌∙◌, arith}
-use Rattle.std.proofs.lemmas.List.{take_more_set, take-append-drop, take_all, drop-drop, drop-set-lt}
-use Rattle.records.specs.Words.{front_words}
-use Rattle.records.specs.Records.{records}
-use Rattle.records.proofs.Runs.{passed, passed_more, records_more, records_stop, ok_same}
+use Rattle.std.proofs.Common.{◌≡◌, ◌+◌, ◌*◌, Ok, Some, None, drop, sym, ap, ◌∙◌, subst, arith}
+use Rattle.std.proofs.lemmas.List.{take_more_set, drop-drop, drop-set-lt, set-get_or}
+use Rattle.records.specs.Words.{words_from}
+use Rattle.records.specs.Records.{Filled}
+use Rattle.records.proofs.Runs.{passed, passed_more, records_more, stopped_at}
 use Rattle.records.proofs.reading.fill.Goals as goal
 
-pub loop-i-init : goal.loop-i-init
-loop-i-init g c = (refl, refl, refl)
+pub returns-in_err-place : goal.returns-in_err-place
+returns-in_err-place g c =
+    let meant = g.R.Record.meant in
+    let n = g.row.N in
+    let inv = c.loop-record.invariant in
+    let i = c.loop-record.record in
+    let h = c.in_err-place.ensures in
+    let nothing : meant (words_from (passed n i c.args.bytes.now) 0 n) ≡ None = ap (λ s. meant (words_from s 0 n)) (sym inv.rest) ∙ h.2 in
+    subst (λ new. Filled meant n c.args.list c.args.bytes.now c.args.out.now new c.from_residual.result) (sym (set-get_or c.loop-record.out i c.index-out-record.result)) (stopped_at meant n c.args.list c.args.bytes.now i c.args.out.now c.loop-record.out c.in_err-place.field-0.0 _ inv.read inv.left (omega arith) h.0 h.1 nothing c.from_residual.ensures.1)
 
-pub returns-in-None : goal.returns-in-None
-returns-in-None g c =
-    let r = g.R.Record in
-    let inv = c.loop-i.invariant in
-    let at : c.front_words.result ≡ front_words (passed r.width c.loop-i.i c.args.bytes.now) = c.front_words.ensures ∙ ap front_words inv.0 in
+pub loop-record-preserved : goal.loop-record-preserved
+loop-record-preserved g c =
+    let meant = g.R.Record.meant in
+    let n = g.row.N in
+    let inv = c.loop-record.invariant in
+    let i = c.loop-record.record in
+    let here : meant (words_from (passed n i c.args.bytes.now) 0 n) ≡ Some c.in_ok-place.field-0 = ap (λ s. meant (words_from s 0 n)) (sym inv.rest) ∙ c.in_ok-place.ensures in
     record {
-      list_is = refl;
-      first = records_stop r.meant r.width c.loop-i.i _ _ _ inv.1 (ap r.meant (sym at) ∙ sym c.in-None.ensures) c.loop-i-test.true;
-      front = λ rs e. sym (take-append-drop c.loop-i.i c.loop-i.out) ∙ ap (λ xs. xs ++ drop c.loop-i.i c.loop-i.out) (ok_same _ _ (sym inv.1 ∙ e)) ∙ ap (λ ys. rs ++ ys) inv.2;
+      rest = c.after-rest.ensures ∙ ap (drop (4 * n)) inv.rest ∙ sym (passed_more n i c.args.bytes.now);
+      read = records_more meant n i _ _ _ inv.read here ∙ ap Ok (sym (take_more_set c.loop-record.out i c.in_ok-place.field-0 (omega arith)));
+      left = drop-set-lt (i + 1) c.loop-record.out i _ (omega arith) ∙ sym (drop-drop 1 i _) ∙ ap (drop 1) inv.left ∙ drop-drop 1 i _;
     }
-
-pub loop-i-preserved : goal.loop-i-preserved
-loop-i-preserved g c =
-    let r = g.R.Record in
-    let inv = c.loop-i.invariant in
-    let i = c.loop-i.i in
-    let at : c.front_words.result ≡ front_words (passed r.width i c.args.bytes.now) = c.front_words.ensures ∙ ap front_words inv.0 in (
-      c.after-rest.ensures ∙ ap (λ w. drop (4 * w) c.loop-i.rest.now) c.words-step.ensures ∙ ap (drop (4 * r.width)) inv.0 ∙ sym (passed_more r.width i c.args.bytes.now),
-      records_more r.meant r.width i _ _ _ inv.1 (ap r.meant (sym at) ∙ sym c.in-Some.ensures) ∙ ap Ok (sym (take_more_set c.loop-i.out i c.in-Some.record (omega arith))),
-      drop-set-lt (i + 1) c.loop-i.out i _ (omega arith) ∙ sym (drop-drop 1 i _) ∙ ap (drop 1) inv.2 ∙ drop-drop 1 i _,
-    )
-
-pub returns : goal.returns
-returns g c =
-    let r = g.R.Record in
-    let e : length c.args.out.now ≡ c.loop-i.i = omega arith in
-    ap (λ n. records r.meant r.width n c.args.bytes.now) e ∙ c.loop-i.invariant.1 ∙ ap Ok (take_all c.loop-i.i c.loop-i.out (omega arith))

@@ -1,40 +1,12 @@
-use Rattle.std.proofs.Common.{◌≡◌, [], ◌++◌, length, take, drop, sym, ap, ◌∙◌, le_refl}
-use Rattle.std.proofs.lemmas.List.{append-nil, drop_all, take_all}
-use Rattle.script.specs.Words.{before, from}
-use Rattle.script.proofs.Splits.{rest_more, rest_stop, word_more, word_stop}
+use Rattle.std.proofs.Common.{rules, tests, ◌==◌, ap, length, ◌∙◌}
+use Rattle.std.specs.Option.{unwrap_or}
+use Rattle.std.proofs.lemmas.Iterator.{YieldsList-from_slice}
+use Rattle.std.proofs.lemmas.Iterator.Search.{position_from_yields_List}
+use Rattle.script.proofs.Splits.{or_length}
 use Rattle.script.proofs.text.upto.Goals as goal
-
-pub returns-then-b-stop : goal.returns-then-b-stop
-returns-then-b-stop c =
-    let xs = c.args.text.now in
-    let stop = c.args.stop in
-    let i = c.loop-i.i in
-    let lt = c.loop-i-test.true in
-    let e = c.if-b-stop.true in
-    record {
-      within = c.loop-i.auto.i-end;
-      front = sym (append-nil (take i xs)) ∙ ap (λ w. take i xs ++ w) (sym (word_stop xs i lt stop e)) ∙ c.loop-i.invariant.0;
-      behind = sym (rest_stop xs i lt stop e) ∙ c.loop-i.invariant.1;
-    }
-
-pub loop-i-preserved : goal.loop-i-preserved
-loop-i-preserved c =
-    let xs = c.args.text.now in
-    let stop = c.args.stop in
-    let i = c.loop-i.i in
-    let lt = c.loop-i-test.true in
-    let ne = c.if-b-stop.false in
-    (word_more xs i lt stop ne ∙ c.loop-i.invariant.0, rest_more xs i lt stop ne ∙ c.loop-i.invariant.1)
 
 pub returns : goal.returns
 returns c =
     let xs = c.args.text.now in
-    let stop = c.args.stop in
-    let n = length xs in
-    let i = c.loop-i.i in
-    let none : drop i xs ≡ [] = drop_all i xs c.loop-i-test.false in
-    record {
-      within = le_refl n;
-      front = take_all n xs (le_refl n) ∙ sym (take_all i xs c.loop-i-test.false) ∙ sym (append-nil (take i xs)) ∙ ap (λ l. take i xs ++ before stop l) (sym none) ∙ c.loop-i.invariant.0;
-      behind = drop_all n xs (le_refl n) ∙ ap (from stop) (sym none) ∙ c.loop-i.invariant.1;
-    }
+    let is = position_from_yields_List (λ b. b == c.args.stop) _ _ c.position.result c.position.ensures.ran (YieldsList-from_slice xs cc) (λ x b q k. search (rules, tests)) in
+    c.unwrap_or.ensures ∙ ap (λ r. unwrap_or r (length xs)) is ∙ or_length (λ b. b == c.args.stop) xs

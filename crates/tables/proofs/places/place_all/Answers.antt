@@ -16,13 +16,13 @@ loop-k-preserved c =
     let gs = c.args.globals.now in
     let ts = c.args.types.now in
     let k = c.loop-k.k in
-    let more : c.loop-k.at + c.global_words.result ≡ words ts (take (k + 1) gs) = omega (arith, words_more ts gs k (record { kind = 0; count = 0 }) c.loop-k-test.true, c.loop-k.invariant.0, c.global_words.ensures.value) in (
+    let more : c.loop-k.heap + c.global_words.result ≡ words ts (take (k + 1) gs) = omega (arith, words_more ts gs k (record { kind = 0; count = 0 }) c.loop-k-test.true, c.loop-k.invariant.0, c.global_words.ensures.value) in (
       more,
       omega arith,
       length-set c.loop-k.spans k _ ∙ c.loop-k.invariant.2,
       below_more _ _
           (λ j l. nth_set_below c.loop-k.spans k j _ l ∙ c.loop-k.invariant.3 j l)
-          (nth_set_same c.loop-k.spans k _ (omega (arith, c.loop-k.invariant.2)) ∙ ap (λ lo. Some (record { low = lo; high = c.loop-k.at + c.global_words.result })) c.loop-k.invariant.0 ∙ ap (λ hi. Some (record { low = words ts (take k gs); high = hi })) more),
+          (nth_set_same c.loop-k.spans k _ (omega (arith, c.loop-k.invariant.2)) ∙ ap (λ lo. Some (record { low = lo; high = c.loop-k.heap + c.global_words.result })) c.loop-k.invariant.0 ∙ ap (λ hi. Some (record { low = words ts (take k gs); high = hi })) more),
     )
 
 pub returns : goal.returns

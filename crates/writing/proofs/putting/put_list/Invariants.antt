@@ -1,10 +1,11 @@
 use Rattle.std.proofs.Common.{◌≡◌, ◌+◌, ◌*◌, take}
 use Rattle.std.specs.List.{flat_map}
-use Rattle.records.specs.Words.{spell}
 use Rattle.writing.specs.Putting.{placed}
+use Rattle.writing.proofs.Placing.{bytes}
 use Rattle.writing.proofs.putting.put_list.Given as goal
 
-abbrev pub invariant-loop-i : goal.invariant-loop-i
-invariant-loop-i g l =
-    let r = g.R.Record in
-    (l.at ≡ l.start + 4 * (r.width * l.i)) × (l.out ≡ placed l.initial.out l.start (spell (flat_map r.spelt (take l.i l.records))))
+abbrev pub invariant-loop-record : goal.invariant-loop-record
+invariant-loop-record g l = record {
+  next : l.at ≡ l.start + 4 * g.row.N * l.record-index;
+  put : l.out ≡ placed l.initial.out l.start (flat_map (bytes g.R.Record.spelt) (take l.record-index l.records));
+}
