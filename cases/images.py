@@ -3,7 +3,8 @@
 
 An implementation of docs/IMAGE.md that shares nothing with the crates:
 `images.py script` writes a replay script, `images.py transcript` what it has to
-write, `images.py files DIR` stores some of its images, each under its answer.
+write, `images.py files DIR` stores some of its images, each under its answer,
+and `images.py show FILE` writes what `k4 show FILE` has to write.
 """
 import random
 import struct
@@ -426,6 +427,65 @@ def files(folder):
     (folder / "0-largest.bin").write_bytes(image(65536, 16, *largest()))
 
 
+WORDS = (
+    "x{0} = {1}",
+    "x{0} = x{1} + x{2}",
+    "x{0} = x{1} - x{2}",
+    "x{0} = x{1} < x{2}",
+    "x{0} = cast x{1}",
+    "jump to {0}",
+    "jump to {1} if x{0}",
+    "x{0} = address of function {1}",
+    "x{0} = address of global {1}",
+    "x{0} = allocate x{1}",
+    "x{0} = x{1} moved by x{2}",
+    "x{0} = address of field {2} of x{1}",
+    "x{0} = load x{1}",
+    "store x{0} at x{1}",
+    "call function {0}",
+    "call through x{0}",
+    "return",
+)
+
+
+def kind_words(kind, a, b):
+    plain = {NUMBER: "number", VOID: "void", FUNCTION: "function"}
+    if kind in plain:
+        return plain[kind]
+    if kind == POINTER:
+        return "pointer to type %d" % a
+    return "record of %d fields from field %d" % (b, a)
+
+
+def show(data):
+    """The lines of an accepted image for a person to read."""
+    memory, depth, lists = parse(data)
+    types, fields, globals_, locals_, functions, code = lists
+    module = Judge(lists)
+    marked = set(module.sensitive())
+    mark = lambda t: ", sensitive" if t in marked else ""
+    yield "memory: %d words" % memory
+    yield "depth: %d, so %d frames" % (depth, depth or 16)
+    for t, (kind, a, b) in enumerate(types):
+        yield "type %d: %s%s" % (t, kind_words(kind, a, b), mark(t))
+        for k in range(b if kind == RECORD else 0):
+            yield "  field %d: type %d" % (k, fields[a + k][0])
+    at = 0
+    for g, (t, n) in enumerate(globals_):
+        low, at = at, at + n * module.size(t)
+        yield "global %d: %d of type %d, from address %d up to %d" % (g, n, t, low, at)
+    yield "heap: from address %d" % at
+    for number, (first, n, low, m) in enumerate(functions):
+        yield "function %d: from instruction %d of the code" % (number, first)
+        for x in range(m):
+            t = locals_[low + x][0]
+            yield "  x%d: type %d%s" % (x, t, mark(t))
+        body = code[first:first + n]
+        targets = {r[1] for r in body if r[0] == JUMP} | {r[2] for r in body if r[0] == BRANCH}
+        for i, (op, *words) in enumerate(body):
+            yield "%s %d: %s" % (">" if i in targets else " ", i, WORDS[op].format(*words))
+
+
 def main():
     what = sys.argv[1:]
     if what == ["script"] or what == ["transcript"]:
@@ -433,6 +493,9 @@ def main():
             print(line if what == ["script"] else answer)
     elif len(what) == 2 and what[0] == "files":
         files(Path(what[1]))
+    elif len(what) == 2 and what[0] == "show":
+        for line in show(Path(what[1]).read_bytes()):
+            print(line)
     else:
         sys.exit(__doc__)
 

@@ -1,19 +1,21 @@
-// One small task, told in sentences: a table of segment functions outlives a panel that scribbles over memory.
+// One small task, told in sentences: a module is read and looked at, and its table of segment functions outlives a panel
+// that scribbles over memory.
 #![tactic(auto)]
 
+mod kiln;
+mod look;
 mod segment;
 
 use anyhow::anyhow;
 use hash_store::HashStore;
+use look::tell_module;
 use segment::{Function, Segment};
 use stores::store::Store;
+use tables::places::Span;
 use values::marked::Marked;
 use window::Window;
 
 type Table = Window<HashStore<Marked>>;
-
-// Where the table lies in the module's memory, and how many segments it has.
-const TABLE: u32 = 40;
 
 const SEGMENTS: u32 = 4;
 
@@ -42,8 +44,8 @@ fn kept<S: Store<Entry = Marked>>(store: &S, a: u32) -> Option<Function> {
     }
 }
 
-fn keep_table(rt: &HostRuntime, table: &mut Table) -> anyhow::Result<()> {
-    for ((place, address), segment) in (0..SEGMENTS).zip(TABLE..TABLE + SEGMENTS).zip(FIRING) {
+fn keep_table(rt: &HostRuntime, table: &mut Table, at: Span) -> anyhow::Result<()> {
+    for ((place, address), segment) in (0..SEGMENTS).zip(at.low..at.high).zip(FIRING) {
         let function = segment as u32;
         table
             .put(place, Marked::Code(function))
@@ -55,8 +57,8 @@ fn keep_table(rt: &HostRuntime, table: &mut Table) -> anyhow::Result<()> {
     Ok(())
 }
 
-fn compare(rt: &HostRuntime, table: &Table, memory: &[u32]) -> anyhow::Result<()> {
-    for (place, word) in (0..SEGMENTS).zip(memory.iter().skip(TABLE as usize)) {
+fn compare(rt: &HostRuntime, table: &Table, memory: &[u32], at: Span) -> anyhow::Result<()> {
+    for (place, word) in (0..SEGMENTS).zip(memory.iter().skip(at.low as usize)) {
         let said = Function(*word);
         let kept = kept(table, place).unwrap_or(NOTHING_KEPT);
         println!(rt; "  segment {place}: memory says {said}, the safe store says {kept}")?;
@@ -70,11 +72,11 @@ fn compare(rt: &HostRuntime, table: &Table, memory: &[u32]) -> anyhow::Result<()
 }
 
 // What the window refuses, and what lies below it.
-fn look_below(rt: &HostRuntime, mut table: Table) -> anyhow::Result<()> {
+fn look_below(rt: &HostRuntime, mut table: Table, at: Span) -> anyhow::Result<()> {
     let refused = table.put(SEGMENTS, Marked::Code(FULL_POWER)).is_err();
     println!(rt; "A put behind the table, at place {SEGMENTS}, is refused: {refused}.")?;
     let below = table.into_below();
-    let address = TABLE + 1;
+    let address = at.low.saturating_add(1);
     let kept = kept(&below, address).unwrap_or(NOTHING_KEPT);
     println!(rt; "The window is taken apart: the store below holds {kept} at address {address}.")?;
     let slots = below.into_slots().len();
@@ -82,26 +84,29 @@ fn look_below(rt: &HostRuntime, mut table: Table) -> anyhow::Result<()> {
     Ok(())
 }
 
-fn fire(rt: &HostRuntime) -> anyhow::Result<()> {
+// The firing, whose table lies in the module's memory at `at`.
+fn fire(rt: &HostRuntime, at: Span) -> anyhow::Result<()> {
     let heap = rt.alloc();
+    let low = at.low;
     let mut memory = vec![in heap; 0u32; MEMORY]?;
     let slots = vec![in heap; None; SLOTS]?;
-    let mut table = Window::new(TABLE, SEGMENTS, HashStore::new(slots));
+    let mut table = Window::new(at.low, SEGMENTS, HashStore::new(slots));
     println!(rt;
-        "A firing has {SEGMENTS} segments, and a table of the functions that make them, at address {TABLE}."
+        "A firing has {SEGMENTS} segments, and a table of the functions that make them, at address {low}."
     )?;
     println!(rt;
         "The table is kept in a safe store of {SLOTS} slots, behind a window that shows the table alone:"
     )?;
-    keep_table(rt, &mut table)?;
+    keep_table(rt, &mut table, at)?;
     println!(rt;
         "The panel now writes {FULL_POWER}, the function for full power, over all {MEMORY} words of memory."
     )?;
     memory.fill(FULL_POWER);
-    compare(rt, &table, memory.as_slice())?;
-    look_below(rt, table)
+    compare(rt, &table, memory.as_slice(), at)?;
+    look_below(rt, table, at)
 }
 
 fn main(rt: HostRuntime) -> anyhow::Result<()> {
-    fire(&rt)
+    let table = tell_module(&rt)?;
+    fire(&rt, table)
 }

@@ -1,9 +1,10 @@
 // What the firing's module says, and what becomes of a bent one.
 use crate::kiln::KILN;
-use anyhow::anyhow;
+use anyhow::{Context, anyhow};
 use module::module::Module;
 use module::reading::judge;
 use std::iter::successors;
+use tables::places::Span;
 
 // No chain has more links than there are types, and one type more than links.
 const LONGEST: usize = 65;
@@ -59,7 +60,8 @@ fn tell_bent(rt: &HostRuntime) -> anyhow::Result<()> {
     Ok(())
 }
 
-pub(crate) fn tell_module(rt: &HostRuntime) -> anyhow::Result<()> {
+// Tells of the module, and answers where its table of segments lies.
+pub(crate) fn tell_module(rt: &HostRuntime) -> anyhow::Result<Span> {
     let mut module = Module::new();
     if module.read(KILN).is_err() {
         return Err(anyhow!("the module's image is refused"));
@@ -73,11 +75,11 @@ pub(crate) fn tell_module(rt: &HostRuntime) -> anyhow::Result<()> {
         "The module's image of {bytes} bytes is accepted: {functions} functions, {instructions} instructions, {memory} words of memory."
     )?;
     tell_sensitive(rt, &module)?;
-    if let Some(span) = module.span(TABLE) {
-        let (low, high) = (span.low, span.high);
-        println!(rt;
-            "Global {TABLE}, the table of segments, lies from address {low} up to {high}."
-        )?;
-    }
-    tell_bent(rt)
+    let table = module
+        .span(TABLE)
+        .context("the module has no table of segments")?;
+    let Span { low, high } = table;
+    println!(rt; "Global {TABLE}, the table of segments, lies from address {low} up to {high}.")?;
+    tell_bent(rt)?;
+    Ok(table)
 }
