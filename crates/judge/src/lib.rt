@@ -1,4 +1,4 @@
-//! The judge of images, by number: what the board's firmware calls, through `judge_c`.
+//! The judge of images, by number: what the board's firmware calls.
 #![tactic(auto)]
 
 ghost use Rattle.std.specs.Prelude.{◌≡◌};
@@ -9,7 +9,8 @@ ghost use Rattle.judge.specs.Judged.{Judged};
 use module::reading::judge;
 
 // 0, or the number of the image's first fault: C is handed a number, and no `Result`.
-pub fn k4_judge(image: &[u8]) -> u32
+#[unsafe(no_mangle)]
+pub extern "C" fn k4_judge(image: &[u8]) -> u32
     ensures answer { Judged image.now result }
     ensures exact { (c : Content) → Follows image.now c → result ≡ 0 }
 {
