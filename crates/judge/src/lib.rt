@@ -9,6 +9,7 @@ ghost use Rattle.judge.specs.Judged.{Judged};
 use module::reading::judge;
 
 // 0, or the number of the image's first fault: C is handed a number, and no `Result`.
+#[tactic(auto, using(crate::proofs::Numbers::told, crate::proofs::Numbers::not_told))]
 #[unsafe(no_mangle)]
 pub extern "C" fn k4_judge(image: &[u8]) -> u32
     ensures answer { Judged image.now result }
