@@ -2,9 +2,9 @@
 use Rattle.std.specs.Prelude.{◌≡◌, ℕ, Some, None, Ok, Err, string_bytes, Option, Result, String, MatchResult}
 use Rattle.std.specs.declared.alloc.AllocError.{AllocError}
 use Rattle.std.specs.declared.alloc.Global.{Global}
-use Rattle.script.specs.Lines.{Left}
-use Rattle.script.specs.declared.image_line.ImageFault.{ImageFault}
-use Rattle.script.specs.Asks.{Asked, asked_words, image, sensitive, write}
+use Rattle.words.specs.Reading.{Left}
+use Rattle.image_lines.specs.declared.fault.ImageFault.{ImageFault}
+use Rattle.image_lines.specs.Asks.{Asked, asked_words, image, sensitive, write}
 use Rattle.module.specs.Modules.{said}
 use Rattle.module.specs.Modules as modules
 use Rattle.module.specs.declared.module.Module.{Module}

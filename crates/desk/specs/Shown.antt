@@ -3,7 +3,7 @@ use Rattle.std.specs.Prelude.{ℕ, List, ◌++◌, Ok, Err, string_bytes, codes,
 use Rattle.module.specs.Refusals.{refusal_of, too_short}
 use Rattle.module.specs.Texts.{refusal_text}
 use Rattle.module.specs.declared.fault.Refusal.{Refusal}
-use Rattle.script.specs.Reasons.{image_reason}
+use Rattle.image_lines.specs.Reasons.{image_reason}
 use Rattle.replay.specs.Replies.{shown_reply}
 use Rattle.desk.specs.declared.told.Told.{Told}
 use Rattle.desk.specs.declared.told.Told.TheVariants.{Faulty, Read, Reply, Sensitive, Wrote}

@@ -1,15 +1,15 @@
 // What a script has made so far: a store, and a module.
 ghost use Rattle.std.specs.Prelude.{◌≡◌, None};
-ghost use Rattle.script.specs.Words.{words};
-ghost use Rattle.script.specs.Asks.{asked};
+ghost use Rattle.words.specs.Words.{words};
+ghost use Rattle.image_lines.specs.Asks.{asked};
 ghost use Rattle.module.specs.Modules.{fresh, said};
 ghost use Rattle.desk.specs.Answers.{Done, Heard};
 
 use crate::doing::{read_image, sensitive_types, write_image};
 use crate::told::Told;
+use image_lines::line::{ImageLine, parse};
 use module::module::Module;
 use replay::session::Session;
-use script::image_line::{ImageLine, parse};
 use std::alloc::{AllocError, Global};
 
 #[derive(Drop)]

@@ -2,9 +2,9 @@
 ghost use Rattle.std.specs.Prelude.{Some};
 ghost use Rattle.desk.specs.Shown.{shown_told};
 
+use image_lines::fault::ImageFault;
 use module::fault::{ModuleFault, Refusal};
 use replay::reply::Reply;
-use script::image_line::ImageFault;
 use std::fmt;
 use writing::TooShort;
 

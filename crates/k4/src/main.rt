@@ -7,11 +7,11 @@ mod show;
 use anyhow::anyhow;
 use desk::desk::Desk;
 use judge::judge_file;
-use script::text::Lines;
 use show::show_file;
 use std::env;
 use std::io::Read;
 use std::process::ExitCode;
+use words::text::Lines;
 
 const USAGE: &str =
     "usage: k4 replay < SCRIPT\n       k4 judge FILE\n       k4 show FILE\n\nreplay  does the calls of a script, line by line, and writes what they answered\njudge   says whether the module image in FILE is accepted, and if not, why\nshow    writes what the module says\n";

@@ -1,10 +1,11 @@
 -- What a line of a script does, and what the transcript gets for it.
 use Rattle.std.specs.Prelude.{◌≡◌, ℕ, List, [], ◌++◌, Some, None, Ok, Err, codes, decimal, Option, Result}
 use Rattle.std.specs.declared.alloc.AllocError.{AllocError}
-use Rattle.script.specs.Lines.{Left, Told, line_words, said}
-use Rattle.script.specs.Reasons.{reason}
+use Rattle.words.specs.Reading.{Left}
+use Rattle.script.specs.Lines.{Told, line_words, said}
+use Rattle.words.specs.Reasons.{reason}
 use Rattle.script.specs.declared.command.Command.{Command}
-use Rattle.script.specs.declared.fault.Fault.{Fault}
+use Rattle.words.specs.declared.fault.Fault.{Fault}
 use Rattle.replay.specs.declared.answer.Answer.{Answer}
 use Rattle.replay.specs.declared.reply.Reply.{Reply}
 use Rattle.replay.specs.declared.reply.Reply.TheVariants.{Answered, Faulty, Silent}

@@ -1,14 +1,14 @@
 // What a transcript gets for a line of its script.
 ghost use Rattle.std.specs.Prelude.{Some};
-ghost use Rattle.script.specs.Words.{words};
+ghost use Rattle.words.specs.Words.{words};
 ghost use Rattle.replay.specs.Replies.{Replied, shown_reply};
 
 use crate::answer::Answer;
 use crate::session::Session;
-use script::fault::Fault;
 use script::line::parse;
 use std::alloc::{AllocError, Global};
 use std::fmt;
+use words::fault::Fault;
 
 // An enum and no `Result`: what is wrong with a line is no failure of the call, and all three are printed.
 #[derive(Clone, Copy, PartialEq, Eq, Debug)]

@@ -1,5 +1,1 @@
-pub mod Asks
 pub mod Lines
-pub mod Numbers
-pub mod Reasons
-pub mod Words

@@ -1,7 +1,5 @@
--- What the lines of a script say, word by word.
-use Rattle.std.specs.Prelude.{ℕ, Bool, false, cond, ◌&&◌, List, [], ◌∷◌, Some, None, Ok, Err, codes, Option, Result, ◌==◌, nat_le, nat_lt}
-use Prim.Native.String.{String}
-use Rattle.std.specs.Str.{bytes_eq}
+-- What the lines about stores say, word by word.
+use Rattle.std.specs.Prelude.{ℕ, Bool, false, cond, ◌&&◌, List, [], ◌∷◌, Some, None, Ok, Err, Option, Result, ◌==◌, nat_le, nat_lt}
 use Rattle.values.specs.declared.marked.Marked.{Marked}
 use Rattle.values.specs.declared.marked.Marked.TheVariants.{Code, Data}
 use Rattle.script.specs.declared.command.Make.{Make}
@@ -12,13 +10,9 @@ use Rattle.script.specs.declared.command.Call.{Call}
 use Rattle.script.specs.declared.command.Call.TheVariants.{Drop, Get, Put, Takes}
 use Rattle.script.specs.declared.command.Command.{Command}
 use Rattle.script.specs.declared.command.Command.TheVariants.{Ask, Build}
-use Rattle.script.specs.declared.fault.Fault.{Fault}
-use Rattle.script.specs.declared.fault.Fault.TheVariants.{Bounds, Count, Word}
-use Rattle.script.specs.Numbers.{number}
-
--- The words that are left of a line.
-abbrev pub Left : Type 0
-Left = List (List ℕ)
+use Rattle.words.specs.Reading.{Left, answered, at_end, heard, largest, spells, take_number, take_word, then}
+use Rattle.words.specs.declared.fault.Fault.{Fault}
+use Rattle.words.specs.declared.fault.Fault.TheVariants.{Bounds, Word}
 
 -- A word as it is written of a value: code and its function, or data and its word, low and high.
 pub data Mark : Type 0 where
@@ -28,31 +22,6 @@ pub data Mark : Type 0 where
 abbrev pub mark : Marked → Mark
 mark (Code f) = code f
 mark (Data w b) = bounded w b.low b.high
-
-module _ {A B : Type 0} where
-  -- Reading goes on with what was read and the words left, or ends with the fault.
-  abbrev pub then : Result (A × Left) Fault → (A → Left → Result B Fault) → Result B Fault
-  then (Ok p) k = k p.0 p.1
-  then (Err e) k = Err e
-
-  abbrev pub answered : (A → B) → Result A Fault → Left → Result (B × Left) Fault
-  answered f (Ok x) ws = Ok (f x, ws)
-  answered f (Err e) ws = Err e
-
-unfoldable pub take_word : Left → Result (List ℕ × Left) Fault
-take_word [] = Err Count
-take_word (w ∷ ws) = Ok (w, ws)
-
-unfoldable pub take_number : ℕ → Left → Result (ℕ × Left) Fault
-take_number most ws = then (take_word ws) (λ w ws. answered (λ n. n) (number most w) ws)
-
--- The largest number of 32 bits.
-abbrev pub largest : ℕ
-largest = 4294967295
-
--- whether a word is the one that is written so
-abbrev pub spells : List ℕ → String → Bool
-spells w text = bytes_eq w (codes text)
 
 unfoldable pub take_bounded : Left → Result (Mark × Left) Fault
 take_bounded ws =
@@ -67,15 +36,6 @@ take_value ws =
     cond (spells kind "code") (then (take_number largest ws) (λ f ws. Ok (code f, ws)))
     (cond (spells kind "data") (take_bounded ws)
     (Err Word)))
-
--- No word is left.
-unfoldable pub at_end : {A : Type 0} → A → Left → Result A Fault
-at_end x [] = Ok x
-at_end x (w ∷ ws) = Err Count
-
-abbrev pub heard : {A B : Type 0} → (A → B) → Result A Fault → Result B Fault
-heard f (Ok x) = Ok (f x)
-heard f (Err e) = Err e
 
 -- what a line says
 pub data Told : Type 0 where

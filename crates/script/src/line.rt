@@ -1,12 +1,14 @@
 // A line of a script, read into what it asks for.
 ghost use Rattle.std.specs.Prelude.{◌≡◌};
 ghost use Rattle.std.specs.Option.{option_map};
-ghost use Rattle.script.specs.Lines.{address_words, call_words, command_words, heard, is_comment, line_words, make_of, put_words, said, said_call, shape_words, store_words};
-ghost use Rattle.script.specs.Words.{words as split};
+ghost use Rattle.words.specs.Reading.{heard};
+ghost use Rattle.words.specs.Words.{words as split};
+ghost use Rattle.script.specs.Lines.{address_words, call_words, command_words, is_comment, line_words, make_of, put_words, said, said_call, shape_words, store_words};
 
 use crate::command::{Call, Command, Make, Shape, View};
-use crate::fault::Fault;
-use crate::words::Words;
+use crate::value::value;
+use words::fault::Fault;
+use words::words::Words;
 
 // The largest store that a script may ask for.
 const MOST_SLOTS: u32 = 70_000;
@@ -36,14 +38,14 @@ fn shape(words: &mut Words, view: Option<View>, make: &[u8]) -> Result<Shape, Fa
 fn store(words: &mut Words) -> Result<Shape, Fault>
     ensures { result ≡ store_words words.old }
 {
-    match words.word()? {
-        b"window" => {
-            let base = words.number(u32::MAX)?;
-            let len = words.number(u32::MAX)?;
-            let make = words.word()?;
-            shape(words, Some(View { base, len }), make)
-        }
-        make => shape(words, None, make),
+    let word = words.word()?;
+    if word == b"window".as_slice() {
+        let base = words.number(u32::MAX)?;
+        let len = words.number(u32::MAX)?;
+        let make = words.word()?;
+        shape(words, Some(View { base, len }), make)
+    } else {
+        shape(words, None, word)
     }
 }
 
@@ -52,7 +54,7 @@ fn put(words: &mut Words) -> Result<Call, Fault>
     ensures { heard said_call result ≡ put_words words.old }
 {
     let address = words.number(u32::MAX)?;
-    let value = words.value()?;
+    let value = value(words)?;
     words.end()?;
     Ok(Call::Put(address, value))
 }
@@ -84,9 +86,10 @@ fn call(verb: &[u8], words: &mut Words) -> Result<Call, Fault>
 fn command(verb: &[u8], words: &mut Words) -> Result<Command, Fault>
     ensures { heard said result ≡ command_words verb.now words.old }
 {
-    match verb {
-        b"store" => store(words).map(Command::Build),
-        _ => call(verb, words).map(Command::Ask),
+    if verb == b"store".as_slice() {
+        store(words).map(Command::Build)
+    } else {
+        call(verb, words).map(Command::Ask)
     }
 }
 

@@ -5,6 +5,8 @@
 mod tests {
     use array_store::ArrayStore;
     use hash_store::HashStore;
+    use hash_store::slot::Slot;
+    use std::process::Abort;
     use std::test::Fail;
     use stores::store::{NotTaken, Store};
     use window::Window;
@@ -22,35 +24,42 @@ mod tests {
         Ok(())
     }
 
+    fn uses_most(rt: &impl Abort, slots: Vec<Option<u32>>) -> Result<(), Fail> {
+        let n = slots.len();
+        let mut s = ArrayStore::new(slots);
+        assert_eq!(rt; s.get(0), None);
+        assert_eq!(rt; s.put(65_535, 2u32), Ok(()));
+        assert_eq!(rt; s.put(65_536, 3u32), Err(NotTaken));
+        let slots = s.into_slots();
+        assert_eq!(rt; slots.len(), n);
+        assert_eq!(rt; slots.get(65_535).copied(), Some(Some(2u32)));
+        assert!(rt; slots.get(65_536).copied() != Some(Some(1u32)));
+        Ok(())
+    }
+
     #[test]
     fn most_slots_of_an_array_store(rt: HostRuntime) -> Result<(), Fail> {
-        for n in [65_536, 65_537] {
-            let mut s = ArrayStore::new(vec![in rt.alloc(); Some(1u32); n]?);
-            assert_eq!(rt; s.get(0), None);
-            assert_eq!(rt; s.put(65_535, 2u32), Ok(()));
-            assert_eq!(rt; s.put(65_536, 3u32), Err(NotTaken));
-            let slots = s.into_slots();
-            assert_eq!(rt; slots.len(), n);
-            assert_eq!(rt; slots.get(65_535).copied(), Some(Some(2u32)));
-            assert!(rt; slots.get(65_536).copied() != Some(Some(1u32)));
+        uses_most(&rt, vec![in rt.alloc(); Some(1u32); 65_536]?)?;
+        uses_most(&rt, vec![in rt.alloc(); Some(1u32); 65_537]?)
+    }
+
+    fn fills_most(rt: &impl Abort, slots: Vec<Slot<u32>>) -> Result<(), Fail> {
+        let mut s = HashStore::new(slots);
+        for i in 0..65_536u32 {
+            assert_eq!(rt; s.put(i.wrapping_mul(65_537), i), Ok(()));
         }
+        assert!(rt; !s.takes(1));
+        assert_eq!(rt; s.put(1, 0), Err(NotTaken));
+        s.drop(65_537);
+        assert!(rt; s.takes(1));
+        assert_eq!(rt; s.get(0), Some(0));
+        assert_eq!(rt; s.get(2 * 65_537), Some(2));
         Ok(())
     }
 
     #[test]
     fn most_slots_of_a_hash_store(rt: HostRuntime) -> Result<(), Fail> {
-        for n in [65_536, 65_537] {
-            let mut s = HashStore::new(vec![in rt.alloc(); None; n]?);
-            for i in 0..65_536u32 {
-                assert_eq!(rt; s.put(i.wrapping_mul(65_537), i), Ok(()));
-            }
-            assert!(rt; !s.takes(1));
-            assert_eq!(rt; s.put(1, 0), Err(NotTaken));
-            s.drop(65_537);
-            assert!(rt; s.takes(1));
-            assert_eq!(rt; s.get(0), Some(0));
-            assert_eq!(rt; s.get(2 * 65_537), Some(2));
-        }
-        Ok(())
+        fills_most(&rt, vec![in rt.alloc(); None; 65_536]?)?;
+        fills_most(&rt, vec![in rt.alloc(); None; 65_537]?)
     }
 }

@@ -1,6 +1,6 @@
 use Rattle.std.proofs.Common.{Ok, sym, refl, subst}
-use Rattle.script.specs.Asks.{asked}
-use Rattle.script.specs.declared.image_line.ImageLine.{ImageLine}
+use Rattle.image_lines.specs.Asks.{asked}
+use Rattle.image_lines.specs.declared.line.ImageLine.{ImageLine}
 use Rattle.desk.specs.declared.told.Told.TheVariants.{Sensitive}
 use Rattle.desk.specs.Answers.{Done}
 use Rattle.desk.proofs.desk.Desk.tell.Goals as goal
