@@ -2,3 +2,4 @@ pub mod Following
 pub mod Exact
 pub mod Again
 mod Fresh
+pub mod Locals

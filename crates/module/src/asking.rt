@@ -20,9 +20,10 @@ impl Module {
 
     // How many frames may stand. An image writes 0 for 16, and a module keeps what its image says.
     pub fn frames(&self) -> u32
-        ensures { result ≡ frames (said self.now).depth }
+        ensures value { result ≡ frames (said self.now).depth }
+        ensures few { result ≤ 16 }
     {
-        match self.parts.lists().depth {
+        match self.parts.header().depth() {
             0 => 16,
             depth => depth,
         }

@@ -5,3 +5,4 @@ pub mod asking;
 pub mod fault;
 pub mod module;
 pub mod reading;
+pub mod running;

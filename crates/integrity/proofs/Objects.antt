@@ -1,0 +1,181 @@
+-- Globals and blocks don't overlap, and lie within the memory: what stays so through a run.
+use Rattle.std.proofs.Common.{◌≡◌, ◌≢◌, ℕ, zero, suc, ◌+◌, ◌*◌, ◌<◌, ◌≤◌, ◌⊎◌, inl, inr, List, [], ◌∷◌, ◌++◌, length, Some, Ok, refl, sym, ap, ◌∙◌, subst, arith, ⊎_elim}
+use Rattle.std.proofs.Math.Nat.{mul-pos}
+use Rattle.std.specs.List.{slice_get}
+use Rattle.std.proofs.lemmas.Bool.{cases_lt}
+use Rattle.std.proofs.lemmas.Option.{slice_get_within}
+use Rattle.content.specs.declared.instruction.Instruction.{Instruction}
+use Rattle.content.specs.declared.instruction.Instruction.TheVariants as op
+use Rattle.tables.specs.Tables.{words}
+use Rattle.module.specs.Modules.{said}
+use Rattle.module.specs.declared.module.Module.{Module}
+use Rattle.machine.specs.declared.frame.Frame.{Frame}
+use Rattle.machine.specs.declared.event.Event.{Event}
+use Rattle.machine.specs.Values.{word}
+use Rattle.machine.specs.Frames.{value}
+use Rattle.machine.specs.Machine.{State, Sight, Left, Step, instruction, size, make}
+use Rattle.machine.specs.Goes.{Made, made}
+use Rattle.integrity.specs.Histories.{Did, Allocated, Name, global, block, Block, Object}
+use Rattle.integrity.specs.Integrity.{Begun}
+use Rattle.integrity.proofs.Forms.{Form, gave, allocated, went, wrote, entered_in, left, formed}
+use Rattle.integrity.proofs.Runs.{Quiet, Turn, turned}
+use Rattle.integrity.proofs.Sizes.{globals_fit, global_some, global_within, allocate_some, starts_up}
+
+-- the heap begins behind the globals, and the blocks fill it in the order in which they were allocated
+pub record Laid (m : Module) (h : List Made) (s : Sight) : Type 0 where
+  pub from : words (said m).types (said m).globals ≤ s.state.heap
+  pub upto : s.state.heap ≤ (said m).memory
+  pub blocks : (n low high : ℕ) → Block m h n low high → (words (said m).types (said m).globals ≤ low) × (low < high) × (high ≤ s.state.heap)
+  pub apart : (n n' low high low' high' : ℕ) → n < n' → Block m h n low high → Block m h n' low' high' → high ≤ low'
+
+-- a step leaves the heap, or hands out the words that it begins with
+record Grows (m : Module) (s : Sight) (d : Made) (s' : Sight) : Type 0 where
+  up : s.state.heap ≤ s'.state.heap
+  upto : s'.state.heap ≤ (said m).memory
+  new : (low high : ℕ) → Allocated m d low high → (low ≡ s.state.heap) × (low < high) × (high ≡ s'.state.heap)
+
+-- a step of a longer history is one of the history, or the new one
+at_more : {X : Type 0} (h : List X) (d x : X) (n : ℕ) → slice_get (h ++ d ∷ []) n ≡ Some x → (slice_get h n ≡ Some x) ⊎ ((n ≡ length h) × (d ≡ x))
+at_more [] d x zero e = inr (refl, cc)
+at_more [] d x (suc n) e = absurd (cc)
+at_more (y ∷ h) d x zero e = inl e
+at_more (y ∷ h) d x (suc n) e = ⊎_elim (λ a. inl a) (λ a. inr (omega (arith, a.0), a.1)) (at_more h d x n e)
+
+module _ (m : Module) where
+  block_more : (h : List Made) (d : Made) (n low high : ℕ) → Block m (h ++ d ∷ []) n low high → Block m h n low high ⊎ ((n ≡ length h) × Allocated m d low high)
+  block_more h d n low high b = ⊎_elim
+      (λ a. inl (record { step = b.step; at = a; allocated = b.allocated }))
+      (λ a. inr (a.0, subst (λ (c : Made). Allocated m c low high) (sym a.1) b.allocated))
+      (at_more h d b.step n b.at)
+
+  block_before : (h : List Made) (n low high : ℕ) → Block m h n low high → n < length h
+  block_before h n low high b = slice_get_within h n b.step b.at
+
+  laid_more : (h : List Made) (s : Sight) (d : Made) (s' : Sight) → Laid m h s → Grows m s d s' → Laid m (h ++ d ∷ []) s'
+  laid_more h s d s' l g =
+      record {
+        from = omega (arith, l.from, g.up);
+        upto = g.upto;
+        blocks = λ n low high b. ⊎_elim
+            (λ a. let o = l.blocks n low high a in (o.0, o.1, omega (arith, o.2, g.up)))
+            (λ a. let o = g.new low high a.1 in (omega (arith, l.from, o.0), o.1, omega (arith, o.2)))
+            (block_more h d n low high b);
+        apart = λ n n' low high low' high' lt b b'. ⊎_elim
+            (λ a. ⊎_elim
+            (λ a'. l.apart n n' low high low' high' lt a a')
+            (λ a'. omega (arith, (l.blocks n low high a).2, (g.new low' high' a'.1).0))
+            (block_more h d n' low' high' b'))
+            (λ a. ⊎_elim
+            (λ a'. absurd (omega (arith, lt, a.0, block_before h n' low' high' a')))
+            (λ a'. absurd (omega (arith, lt, a.0, a'.0)))
+            (block_more h d n' low' high' b'))
+            (block_more h d n low high b);
+      }
+
+  -- whether an instruction allocates
+  allocates : (i : Instruction) → ((x : ℕ) × (y : ℕ) × (i ≡ op.Allocate x y)) ⊎ ((x y : ℕ) → i ≡ op.Allocate x y → ⊥)
+  allocates (op.Allocate x y) = inl (x, y, refl)
+  allocates i = inr (λ x y e. cc)
+
+  module _ (s : Sight) (f : Frame) (rest : List Frame) where
+    -- an allocation hands out as many words as it asks for, and they are there
+    asked : (x y : ℕ) (e : Event) (l : Left) → Form m s f rest (op.Allocate x y) e l → (word (value f y) ≢ 0) × (s.state.heap + word (value f y) * size m f x ≤ (said m).memory) × (l.state.heap ≡ s.state.heap + word (value f y) * size m f x)
+    asked x y e l (gave z v g is) = elim g [ ]
+    asked x y e l (allocated x' y' q n fits k is) = let a : x ≡ x' = cc in let b : y ≡ y' = cc in rw (a, b) (n, fits, ap (λ (k : Left). k.state.heap) is)
+    asked x y e l (went p g k is) = elim g [ ]
+    asked x y e l (wrote a w g k is) = elim g [ ]
+    asked x y e l (entered_in k g n b q is) = elim n [ ]
+    asked x y e l (left q k is) = absurd (cc)
+
+    -- any other step leaves the heap
+    stays : (i : Instruction) (e : Event) (l : Left) → ((x y : ℕ) → i ≡ op.Allocate x y → ⊥) → Form m s f rest i e l → l.state.heap ≡ s.state.heap
+    stays i e l u (gave z v g is) = ap (λ (k : Left). k.state.heap) is
+    stays i e l u (allocated x y q n fits k is) = absurd (u x y q)
+    stays i e l u (went p g k is) = ap (λ (k : Left). k.state.heap) is
+    stays i e l u (wrote a w g k is) = ap (λ (k : Left). k.state.heap) is
+    stays i e l u (entered_in k g n b q is) = ap (λ (k : Left). k.state.heap) is
+    stays i e l u (left q k is) = ap (λ (k : Left). k.state.heap) is
+
+  -- what the new step did is the turn's
+  pub turn_is : {s : Sight} {e : Event} {s' : Sight} {f : Frame} {i : Instruction} (t : Turn m s e s') → Did m (made s e s') f i → (f ≡ t.frame) × (i ≡ t.instr)
+  turn_is {s} {e} {s'} {f} {i} t did =
+      let p : Some t.frame ≡ Some f = rw t.stack_is at did.frame in
+      let q : f ≡ t.frame = cc in
+      let r : instruction m t.frame ≡ Some i = rw q at did.instruction_is in
+      let u = t.instruction_is in
+      (q, cc)
+
+  grows : (s : Sight) (e : Event) (s' : Sight) → s.state.heap ≤ (said m).memory → Turn m s e s' → Grows m s (made s e s') s'
+  grows s e s' upto t =
+      let f = t.frame in
+      let form = formed m s f t.others t.instr e t.answer in
+      let heap : s'.state.heap ≡ (make m s f t.others t.instr).state.heap = ap (λ (k : State). k.heap) t.does.state in
+      ⊎_elim
+      (λ (x, y, q).
+      let n = word (value f y) * size m f x in
+      let (w, fits, h) = asked s f t.others x y e _ (subst (λ i. Form m s f t.others i e (make m s f t.others t.instr)) q form) in
+      let some : 0 < n = mul-pos (omega (arith, w)) (allocate_some m f x y (t.instruction_is ∙ ap Some q)) in
+      record {
+        up = omega (arith, heap, h);
+        upto = omega (arith, heap, h, fits);
+        new = λ low high a.
+            let same = turn_is t a.did in
+            let it : op.Allocate a.x a.y ≡ op.Allocate x y = same.1 ∙ q in
+            let b : a.x ≡ x = cc in
+            let c : a.y ≡ y = cc in
+            let as_many : word (value a.frame a.y) * size m a.frame a.x ≡ n = rw (same.0, b, c) refl in
+            (a.low_is, omega (arith, a.low_is, a.high_is, as_many, some), omega (arith, a.high_is, as_many, heap, h));
+      })
+      (λ u. let h : s'.state.heap ≡ s.state.heap = heap ∙ stays s f t.others t.instr e _ u form in
+      record {
+        up = omega (arith, h);
+        upto = omega (arith, h, upto);
+        new = λ low high a. let same = turn_is t a.did in absurd (u a.x a.y (sym same.1));
+      })
+      (allocates t.instr)
+
+-- so it is as a run begins
+pub laid_begin : {m : Module} {s : Sight} → Begun m s → Laid m [] s
+laid_begin {m} b =
+    let e = ap (λ (t : State). t.heap) b.state in
+    record {
+      from = omega (arith, e);
+      upto = omega (arith, e, globals_fit m);
+      blocks = λ n low high b. absurd (omega (arith, block_before m [] n low high b));
+      apart = λ n n' low high low' high' lt b b'. absurd (omega (arith, block_before m [] n low high b));
+    }
+
+-- where nothing is made
+pub laid_quiet : {m : Module} {h : List Made} {s s' : Sight} → Laid m h s → Quiet s s' → Laid m h s'
+laid_quiet l q =
+    record {
+      from = omega (arith, q.heap, l.from);
+      upto = omega (arith, q.heap, l.upto);
+      blocks = λ n low high b. let o = l.blocks n low high b in (o.0, o.1, omega (arith, q.heap, o.2));
+      apart = l.apart;
+    }
+
+-- and behind a made step
+pub laid_step : {m : Module} {h : List Made} {s : Sight} {e : Event} {s' : Sight} → Laid m h s → Step m s (Ok e) s' → Laid m (h ++ made s e s' ∷ []) s'
+laid_step {m} {h} {s} {e} {s'} l p = laid_more m h s (made s e s') s' l (grows m s e s' l.upto (turned m s e s' p))
+
+-- no two of all globals and blocks overlap
+pub apart_of : {m : Module} {h : List Made} {s : Sight} → Laid m h s → (o o' : Name) (low high low' high' : ℕ) → o ≢ o' → Object m h o low high → Object m h o' low' high' → (high ≤ low') ⊎ (high' ≤ low)
+apart_of {m} l (global k) (global k') low high low' high' ne a b =
+    let up = starts_up (said m).types (said m).globals in
+    ⊎_elim
+    (λ lt. inl (omega (arith, a.high_is, b.low_is, up (k + 1) k' (omega (arith, lt)))))
+    (λ le. let u : k ≢ k' = λ e. ne (ap global e) in inr (omega (arith, b.high_is, a.low_is, up (k' + 1) k (omega (arith, le, u)))))
+    (cases_lt k k')
+apart_of {m} l (global k) (block n) low high low' high' ne a b = inl (omega (arith, a.high_is, global_within m (k + 1), (l.blocks n low' high' b).0))
+apart_of {m} l (block n) (global k) low high low' high' ne a b = inr (omega (arith, b.high_is, global_within m (k + 1), (l.blocks n low high a).0))
+apart_of l (block n) (block n') low high low' high' ne a b =
+    ⊎_elim
+    (λ lt. inl (l.apart n n' low high low' high' lt a b))
+    (λ le. let u : n ≢ n' = λ e. ne (ap block e) in inr (l.apart n' n low' high' low high (omega (arith, le, u)) b a))
+    (cases_lt n n')
+
+-- each has a word at least, and lies within the memory
+pub inside_of : {m : Module} {h : List Made} {s : Sight} → Laid m h s → (o : Name) (low high : ℕ) → Object m h o low high → (low < high) × (high ≤ (said m).memory)
+inside_of {m} l (global k) low high a = (omega (arith, a.low_is, a.high_is, global_some m k a.there), omega (arith, a.high_is, global_within m (k + 1), globals_fit m))
+inside_of l (block n) low high a = let o = l.blocks n low high a in (o.1, omega (arith, o.2, l.upto))

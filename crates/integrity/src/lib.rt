@@ -1,0 +1,4 @@
+//! The integrity theorem over all sequences of calls.
+#![tactic(auto)]
+
+pub mod beginning;

@@ -1,0 +1,7 @@
+pub mod Values
+pub mod Frames
+pub mod Numbers
+pub mod Events
+pub mod Machine
+pub mod Goes
+pub mod Statuses

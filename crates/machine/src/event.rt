@@ -1,0 +1,46 @@
+// What a made step tells.
+ghost use Rattle.std.specs.Prelude.{◌≡◌, Some};
+ghost use Rattle.machine.specs.Numbers.{kind_number, event_text};
+
+use std::fmt;
+
+#[derive(Clone, Copy, PartialEq, Eq, Debug)]
+pub enum EventKind {
+    Other = 0,
+    // A function was entered by a call, or through a pointer.
+    Called = 1,
+    CalledThrough = 2,
+    Returned = 3,
+    // The last frame returned.
+    Ended = 4,
+    // A branch was taken, 1, or not, 0.
+    Branched = 5,
+    // A pointer was moved by so many.
+    Moved = 6,
+    // So many were asked of the heap.
+    Allocated = 7,
+}
+
+// By hand, as a clause reads `from_gives`.
+impl From<EventKind> for u32 {
+    ghost from_gives = { λ k n. n ≡ kind_number k };
+
+    fn from(kind: EventKind) -> u32 {
+        kind as u32
+    }
+}
+
+#[derive(Clone, Copy, PartialEq, Eq, Debug)]
+pub struct Event {
+    pub kind: EventKind,
+    pub word: u32,
+}
+
+impl fmt::Display for Event {
+    ghost output = { λ e. Some (event_text e) };
+
+    fn fmt<W: fmt::Write>(&self, f: &mut fmt::Formatter<W>) -> fmt::Result {
+        let kind = u32::from(self.kind);
+        write!(f, "{kind} {}", self.word)
+    }
+}

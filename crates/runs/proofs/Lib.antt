@@ -1,0 +1,3 @@
+pub mod Beyond
+pub mod Progress
+pub mod Clear

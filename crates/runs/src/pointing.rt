@@ -1,0 +1,84 @@
+// Addresses: of globals, moved, and of fields.
+ghost use Rattle.std.specs.Prelude.{◌≡◌, ◌+◌, Ok};
+ghost use Rattle.machine.specs.Frames.{value};
+ghost use Rattle.machine.specs.Values.{word, with_word, within, wrapped};
+ghost use Rattle.machine.specs.Machine.{field, move, size};
+ghost use Rattle.runs.specs.Seen.{Going, Tried};
+
+use crate::run::Run;
+use machine::event::{Event, EventKind};
+use machine::refusal::Stop;
+use machine::value::Value;
+use stores::store::Store;
+use values::bounds::Bounds;
+use values::marked::Marked;
+
+pub(crate) const OTHER: Event = Event {
+    kind: EventKind::Other,
+    word: 0,
+};
+
+fn wrapped(n: u64) -> u32
+    ensures { result ≡ wrapped n }
+{
+    (n % 0x1_0000_0000) as u32
+}
+
+// The same mark k words on.
+fn shifted(value: Value, k: u32) -> Value
+    ensures { result ≡ with_word value (wrapped (word value + k)) }
+{
+    let at = wrapped(value.word() as u64 + k as u64);
+    match value {
+        Value::Plain(_) => Value::Plain(at),
+        Value::Marked(Marked::Code(_)) => Value::Marked(Marked::Code(at)),
+        Value::Marked(Marked::Data(_, bounds)) => Value::Marked(Marked::Data(at, bounds)),
+    }
+}
+
+// Whether so many words at this one lie within the bounds.
+pub(crate) fn within(bounds: Bounds, word: u32, words: u32) -> bool
+    ensures { result ≡ within bounds word words }
+{
+    bounds.low() <= word && word as u64 + words as u64 <= bounds.high() as u64
+}
+
+impl<S: Store<Entry = Marked>> Run<S> {
+    // The address of field k of the record at y.
+    pub(crate) fn field(&mut self, memory: &[u32], x: u32, y: u32, k: u32) -> Result<Event, Stop>
+        requires going { Going S.entry S.taken self.old memory.now }
+        ensures { Tried S.entry S.taken S.kept (λ m s f rest. field m s f rest x y k) self.old memory.now result self.new memory.now }
+    {
+        if !self.is_sensitive(y) {
+            self.give(x, shifted(self.value(y), k));
+            return Ok(OTHER);
+        }
+        let Value::Marked(Marked::Data(word, bounds)) = self.value(y) else {
+            return Err(Stop::NotData);
+        };
+        if !within(bounds, word, self.size(y)) {
+            return Err(Stop::Outside);
+        }
+        self.give(x, Value::Marked(Marked::Data(wrapped(word as u64 + k as u64), bounds)));
+        Ok(OTHER)
+    }
+
+    // y moved by z, counted in what it points at.
+    pub(crate) fn move_by(&mut self, memory: &[u32], x: u32, y: u32, z: u32) -> Event
+        requires going { Going S.entry S.taken self.old memory.now }
+        ensures { Tried S.entry S.taken S.kept (λ m s f rest. move m s f rest x (value f y) (word (value f z)) (size m f x)) self.old memory.now (Ok result) self.new memory.now }
+    {
+        let n = self.word(z);
+        let by = n as u64 * self.size(x) as u64;
+        match self.value(y) {
+            Value::Marked(Marked::Data(word, bounds)) => {
+                self.give(x, Value::Marked(Marked::Data(wrapped(word as u64 + by), bounds)));
+                Event { kind: EventKind::Moved, word: n }
+            }
+            Value::Plain(word) | Value::Marked(Marked::Code(word)) => {
+                self.give(x, Value::Plain(wrapped(word as u64 + by)));
+                OTHER
+            }
+        }
+    }
+}
