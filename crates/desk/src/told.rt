@@ -2,6 +2,7 @@
 ghost use Rattle.std.specs.Prelude.{Some};
 ghost use Rattle.desk.specs.Shown.{shown_told};
 
+use board::report::Report;
 use image_lines::fault::ImageFault;
 use module::fault::{ModuleFault, Refusal};
 use replay::reply::Reply;
@@ -10,8 +11,10 @@ use writing::TooShort;
 
 #[derive(Drop)]
 pub enum Told {
-    // What a line gets that isn't about modules.
+    // What a line gets that is about neither modules nor runs, or that no run could be asked by.
     Reply(Reply),
+    // What a line about runs gets.
+    Run(Report),
     // A line about modules: its number, and what is wrong with it.
     Faulty(u64, ImageFault),
     Read(Result<(), ModuleFault>),
@@ -27,6 +30,7 @@ impl fmt::Display for Told {
     fn fmt<W: fmt::Write>(&self, f: &mut fmt::Formatter<W>) -> fmt::Result {
         match self {
             Told::Reply(reply) => write!(f, "{reply}"),
+            Told::Run(report) => write!(f, "{report}"),
             Told::Faulty(number, fault) => write!(f, "error line {number}: {fault}\n"),
             Told::Read(Ok(())) => f.write_str("accepted\n"),
             Told::Read(Err(fault)) => {

@@ -60,12 +60,16 @@ fn tell_bent(rt: &HostRuntime) -> anyhow::Result<()> {
     Ok(())
 }
 
-// Tells of the module, and answers where its table of segments lies.
-pub(crate) fn tell_module(rt: &HostRuntime) -> anyhow::Result<Span> {
+pub(crate) fn read_module() -> anyhow::Result<Module> {
     let mut module = Module::new();
-    if module.read(KILN).is_err() {
-        return Err(anyhow!("the module's image is refused"));
-    }
+    module
+        .read(KILN)
+        .map_err(|fault| anyhow!("the module's image is refused, {fault}"))?;
+    Ok(module)
+}
+
+// Tells of the module, and answers where its table of segments lies.
+pub(crate) fn tell_module(rt: &HostRuntime, module: &Module) -> anyhow::Result<Span> {
     let bytes = KILN.len();
     let lists = module.lists();
     let functions = lists.functions.len();
@@ -74,7 +78,7 @@ pub(crate) fn tell_module(rt: &HostRuntime) -> anyhow::Result<Span> {
     println!(rt;
         "The module's image of {bytes} bytes is accepted: {functions} functions, {instructions} instructions, {memory} words of memory."
     )?;
-    tell_sensitive(rt, &module)?;
+    tell_sensitive(rt, module)?;
     let table = module
         .span(TABLE)
         .context("the module has no table of segments")?;

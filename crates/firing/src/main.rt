@@ -1,112 +1,84 @@
-// One small task, told in sentences: a module is read and looked at, and its table of segment functions outlives a panel
-// that scribbles over memory.
+// A whole firing, told in sentences: the kiln's module is read and looked at, and runs beside a panel that bends its table
+// of segments in the regular memory; then once more, on another store and beside another panel.
 #![tactic(auto)]
 
+mod comparing;
+mod entered;
+mod firing;
 mod kiln;
 mod look;
+mod panel;
 mod segment;
+mod telling;
 
-use anyhow::anyhow;
+use array_store::ArrayStore;
+use comparing::compare;
+use firing::{Firing, SLICE};
 use hash_store::HashStore;
-use look::tell_module;
-use segment::{Function, Segment};
-use stores::store::Store;
+use look::{read_module, tell_module};
+use module::module::Module;
+use panel::Panel;
+use segment::Segment;
 use tables::places::Span;
 use values::marked::Marked;
 use window::Window;
 
-type Table = Window<HashStore<Marked>>;
-
-const SEGMENTS: u32 = 4;
-
-// The table's segments, each in its place.
-const FIRING: [Segment; SEGMENTS as usize] = [
-    Segment::Ramp,
-    Segment::Hold,
-    Segment::Cool,
-    Segment::Off,
-];
-
-// What the output says where nothing is kept: no segment's function has this number.
-const NOTHING_KEPT: Function = Function(0);
-
 const SLOTS: usize = 8;
 
-const MEMORY: usize = 64;
+// Where the window's addresses begin in the store below.
+const BASE: u32 = 1000;
 
-const FULL_POWER: u32 = Segment::FullPower as u32;
+type Shown = Window<HashStore<Marked>>;
 
-// The function that is kept at the address.
-fn kept<S: Store<Entry = Marked>>(store: &S, a: u32) -> Option<Function> {
-    match store.get(a)? {
-        Marked::Code(function) => Some(Function(function)),
-        Marked::Data(_, _) => None,
-    }
-}
-
-fn keep_table(rt: &HostRuntime, table: &mut Table, at: Span) -> anyhow::Result<()> {
-    for ((place, address), segment) in (0..SEGMENTS).zip(at.low..at.high).zip(FIRING) {
-        let function = segment as u32;
-        table
-            .put(place, Marked::Code(function))
-            .map_err(|_| anyhow!("the safe store has no room for the table"))?;
-        println!(rt;
-            "  segment {place} is '{segment}': function {function} is kept for address {address}"
-        )?;
-    }
-    Ok(())
-}
-
-fn compare(rt: &HostRuntime, table: &Table, memory: &[u32], at: Span) -> anyhow::Result<()> {
-    for (place, word) in (0..SEGMENTS).zip(memory.iter().skip(at.low as usize)) {
-        let said = Function(*word);
-        let kept = kept(table, place).unwrap_or(NOTHING_KEPT);
-        println!(rt; "  segment {place}: memory says {said}, the safe store says {kept}")?;
-    }
-    let same = (0..SEGMENTS)
-        .zip(FIRING)
-        .filter(|(place, segment)| kept(table, *place) == Some(Function(*segment as u32)))
-        .count();
-    println!(rt; "{same} of {SEGMENTS} entries are what they were.")?;
-    Ok(())
-}
-
-// What the window refuses, and what lies below it.
-fn look_below(rt: &HostRuntime, mut table: Table, at: Span) -> anyhow::Result<()> {
-    let refused = table.put(SEGMENTS, Marked::Code(FULL_POWER)).is_err();
-    println!(rt; "A put behind the table, at place {SEGMENTS}, is refused: {refused}.")?;
-    let below = table.into_below();
-    let address = at.low.saturating_add(1);
-    let kept = kept(&below, address).unwrap_or(NOTHING_KEPT);
-    println!(rt; "The window is taken apart: the store below holds {kept} at address {address}.")?;
-    let slots = below.into_slots().len();
-    println!(rt; "The firing is over, and the {slots} slots are given back.")?;
-    Ok(())
-}
-
-// The firing, whose table lies in the module's memory at `at`.
-fn fire(rt: &HostRuntime, at: Span) -> anyhow::Result<()> {
+// On a hash store behind a window, in slices; the panel bends the table.
+fn fire_in_slices(rt: &HostRuntime, module: &Module, at: Span) -> anyhow::Result<Firing<Shown>> {
     let heap = rt.alloc();
-    let low = at.low;
-    let mut memory = vec![in heap; 0u32; MEMORY]?;
+    let memory = module.memory();
     let slots = vec![in heap; None; SLOTS]?;
-    let mut table = Window::new(at.low, SEGMENTS, HashStore::new(slots));
+    let store = Window::new(BASE, memory, HashStore::new(slots));
+    let panel = Panel {
+        function: Segment::FullPower.into(),
+        words: at,
+    };
     println!(rt;
-        "A firing has {SEGMENTS} segments, and a table of the functions that make them, at address {low}."
+        "A run begins on a hash store of {SLOTS} slots, behind a window of {memory} addresses, and goes on in slices of {SLICE} steps."
     )?;
+    let mut firing = Firing::begin(heap, module, store)?;
+    firing.go_in_slices(rt, panel)?;
+    firing.tell(rt, at)?;
+    Ok(firing)
+}
+
+// On an array store, step by step; the panel bends all of the memory.
+fn fire_by_steps(
+    rt: &HostRuntime,
+    module: &Module,
+    at: Span,
+) -> anyhow::Result<Firing<ArrayStore<Marked>>> {
+    let heap = rt.alloc();
+    let memory = module.memory();
+    let slots = vec![in heap; None; memory as usize]?;
+    let store = ArrayStore::new(slots);
+    let panel = Panel {
+        function: Segment::Off.into(),
+        words: Span {
+            low: 0,
+            high: memory,
+        },
+    };
     println!(rt;
-        "The table is kept in a safe store of {SLOTS} slots, behind a window that shows the table alone:"
+        "The same module's run begins on an array store of {memory} slots, and goes on step by step."
     )?;
-    keep_table(rt, &mut table, at)?;
-    println!(rt;
-        "The panel now writes {FULL_POWER}, the function for full power, over all {MEMORY} words of memory."
-    )?;
-    memory.fill(FULL_POWER);
-    compare(rt, &table, memory.as_slice(), at)?;
-    look_below(rt, table, at)
+    let mut firing = Firing::begin(heap, module, store)?;
+    firing.go_by_steps(rt, panel)?;
+    firing.tell(rt, at)?;
+    Ok(firing)
 }
 
 fn main(rt: HostRuntime) -> anyhow::Result<()> {
-    let table = tell_module(&rt)?;
-    fire(&rt, table)
+    let module = read_module()?;
+    let at = tell_module(&rt, &module)?;
+    let first = fire_in_slices(&rt, &module, at)?;
+    let second = fire_by_steps(&rt, &module, at)?;
+    compare(&rt, &first, &second)
 }

@@ -6,15 +6,14 @@ use std::fmt;
 pub(crate) enum Segment {
     Ramp = 1,
     Hold = 2,
-    Cool = 3,
-    Off = 4,
-    FullPower = 9,
+    Off = 3,
+    FullPower = 4,
 }
 
-const ALL: [Segment; 5] = [
+// In their places in the module's table.
+pub(crate) const TABLE: [Segment; 4] = [
     Segment::Ramp,
     Segment::Hold,
-    Segment::Cool,
     Segment::Off,
     Segment::FullPower,
 ];
@@ -24,7 +23,6 @@ impl fmt::Display for Segment {
         f.write_str(match self {
             Segment::Ramp => "ramp",
             Segment::Hold => "hold",
-            Segment::Cool => "cool",
             Segment::Off => "off",
             Segment::FullPower => "full power",
         })
@@ -35,10 +33,16 @@ impl fmt::Display for Segment {
 #[derive(Clone, Copy, PartialEq, Eq, Debug)]
 pub(crate) struct Function(pub(crate) u32);
 
+impl From<Segment> for Function {
+    fn from(segment: Segment) -> Function {
+        Function(segment as u32)
+    }
+}
+
 impl Function {
     // The segment that it makes, if it makes one.
     fn segment(self) -> Option<Segment> {
-        ALL.into_iter().find(|segment| *segment as u32 == self.0)
+        TABLE.into_iter().find(|segment| *segment as u32 == self.0)
     }
 }
 

@@ -1,12 +1,14 @@
--- Going along a history: a fact that every call keeps, and what it tells of each made step.
-use Rattle.std.specs.Prelude.{◌≡◌, ℕ, zero, suc, List, [], ◌∷◌, ◌++◌, take, Some, Ok}
+-- Going along a history: a fact that every call keeps, what it tells of each made step, and what the store holds.
+use Rattle.std.specs.Prelude.{◌≡◌, ℕ, ◌<◌, zero, suc, List, [], ◌∷◌, ◌++◌, take, Some, Ok}
 use Rattle.std.specs.List.{slice_get}
-use Rattle.std.proofs.Common.{refl, sym, subst, append_assoc}
+use Rattle.std.proofs.Common.{refl, sym, ap, ◌∙◌, subst, append_assoc}
 use Rattle.std.proofs.lemmas.List.{append-nil}
+use Rattle.module.specs.Modules.{said}
 use Rattle.module.specs.declared.module.Module.{Module}
 use Rattle.machine.specs.declared.event.Event.{Event}
-use Rattle.machine.specs.Machine.{Sight, Step}
+use Rattle.machine.specs.Machine.{Entries, Sight, Step}
 use Rattle.machine.specs.Goes.{Made, made}
+use Rattle.integrity.specs.Histories.{held_from}
 use Rattle.integrity.proofs.Runs.{Quiet, Runs, rest, quiet, step}
 
 -- the fact at the end, and what is told of each step, with the history before it
@@ -36,3 +38,9 @@ module _ (m : Module) (Inv : List Made → Sight → Type 0) (P : List Made → 
   -- from the first step on
   pub along_all : {s s' : Sight} {h : List Made} → Inv [] s → Runs m s h s' → Inv h s' × ((n : ℕ) (d : Made) → slice_get h n ≡ Some d → P (take n h) d)
   along_all i r = let a = along [] i r in (a.inv, a.told)
+
+-- the store holds below the memory size what the last made step left there
+pub held_is : (m : Module) {s : Sight} {h : List Made} {s' : Sight} (e : Entries) → ((a : ℕ) → a < (said m).memory → s.entries a ≡ e a) → Runs m s h s' → (a : ℕ) → a < (said m).memory → s'.entries a ≡ held_from e h a
+held_is m e so rest = so
+held_is m e so (quiet q r) = held_is m e (λ a below. ap (λ (f : Entries). f a) q.entries ∙ so a below) r
+held_is m e so (step {s' = s'} d p r) = held_is m s'.entries (λ a below. refl) r

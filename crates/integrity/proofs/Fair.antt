@@ -1,9 +1,5 @@
 -- Marked values are known, and nothing reaches outside its bounds: what holds of a run as it begins, and stays over each made step.
-use Rattle.std.proofs.Common.{◌≡◌, ℕ, ◌+◌, ◌<◌, ◌≤◌, ◌⊎◌, ⊎_elim, Bool, true, false, cond, List, [], ◌∷◌, ◌++◌, length, Some, None, Option, refl, sym, ap, subst, nat_lt, nat_le, replicate, slice_get, arith}
-use Rattle.std.proofs.lemmas.Bool.{ltb-true, leb-true}
-use Rattle.std.proofs.lemmas.List.{take_all}
-use Rattle.content.specs.declared.global.Global.{Global as Spread}
-use Rattle.content.specs.declared.kind.Kind.{Kind}
+use Rattle.std.proofs.Common.{◌≡◌, ℕ, ◌<◌, ◌≤◌, ⊎_elim, Bool, true, false, cond, List, [], ◌∷◌, ◌++◌, Some, None, Option, refl, subst, replicate, slice_get}
 use Rattle.module.specs.Modules.{said}
 use Rattle.module.specs.declared.module.Module.{Module}
 use Rattle.values.specs.declared.bounds.Bounds.{Bounds}
@@ -12,9 +8,9 @@ use Rattle.values.specs.declared.marked.Marked.TheVariants.{Code, Data}
 use Rattle.machine.specs.declared.value.Value.{Value}
 use Rattle.machine.specs.declared.value.Value.TheVariants.{Plain, Marked}
 use Rattle.machine.specs.declared.frame.Frame.{Frame}
-use Rattle.machine.specs.Values.{word, with_word, bounds_if, bounds_of, data_in, read}
+use Rattle.machine.specs.Values.{word, with_word, data_in, read}
 use Rattle.machine.specs.Frames.{entered, value}
-use Rattle.machine.specs.Machine.{Entries, Sight, at_place, kept, given, sensitive, start_of}
+use Rattle.machine.specs.Machine.{Entries, Sight, at_place, kept, given, sensitive}
 use Rattle.machine.specs.Goes.{Made}
 use Rattle.integrity.specs.Histories.{Name, global, block, Object, Known}
 use Rattle.integrity.specs.Integrity.{Begun}
@@ -78,24 +74,6 @@ known_more m h d (Data w b) k = (k.0, object_more m h d k.0 b.low b.high k.1)
 pub value_there : (f : Frame) (x : ℕ) (v : Mark) → value f x ≡ Marked v → slice_get f.locals x ≡ Some (Marked v)
 value_there f x v e = read_there f.locals x (Plain 0) (Marked v) e (λ z. cc)
 
-bounds_if_are : (low high : ℕ) (l h : Bool) (p : nat_lt low high ≡ l) (q : nat_le high 65536 ≡ h) (b : Bounds) → bounds_if low high l h p q ≡ Some b → (b.low ≡ low) × (b.high ≡ high) × (low < high)
-unfolding bounds_if
-bounds_if_are low high true true p q b e =
-    let z : record { low = low; high = high; some = ltb-true low high p; inside = leb-true high 65536 q } ≡ b = cc in
-    (ap (λ (c : Bounds). c.low) (sym z), ap (λ (c : Bounds). c.high) (sym z), ltb-true low high p)
-bounds_if_are low high true false p q b e = absurd (cc)
-bounds_if_are low high false h p q b e = absurd (cc)
-
-pub bounds_are : (low high : ℕ) (b : Bounds) → bounds_of low high ≡ Some b → (b.low ≡ low) × (b.high ≡ high) × (low < high)
-unfolding bounds_of
-bounds_are low high b e = bounds_if_are low high (nat_lt low high) (nat_le high 65536) refl refl b e
-
--- behind the last global no words are a global's
-pub no_room : (types : List Kind) (globals : List Spread) (g : ℕ) → length globals ≤ g → start_of types globals g < start_of types globals (g + 1) → ⊥
-no_room types globals g l p =
-    let z = rw (take_all g globals l, take_all (g + 1) globals (omega arith)) at p in
-    omega arith
-
 kept_cases : (b : Bool) (v : Value) (n : ℕ) (w : Mark) → cond b v (Plain n) ≡ Marked w → (b ≡ true) × (v ≡ Marked w)
 kept_cases true v n w e = (refl, e)
 kept_cases false v n w e = absurd (cc)
@@ -125,21 +103,9 @@ module _ (m : Module) (h : List Made) where
 pub fair_begin : (m : Module) (s : Sight) → Begun m s → Fair m [] s
 fair_begin m s b =
     record {
-      frames = subst (λ l. Each (FairFrame m []) l) (sym (ap (λ t. t.stack) b.state)) (each_cons (FairFrame m []) (entered 0) [] (begun_frame m [] 0) (each_none (FairFrame m [])));
+      frames = rw (b.state) (each_cons (FairFrame m []) (entered 0) [] (begun_frame m [] 0) (each_none (FairFrame m [])));
       held = λ a v l e. let z = b.clear a l in absurd (cc);
     }
 
 pub fair_quiet : (m : Module) (h : List Made) (s s' : Sight) → Fair m h s → Quiet s s' → Fair m h s'
-fair_quiet m h s s' p q =
-    record {
-      frames = subst (λ l. Each (FairFrame m h) l) (sym q.stack) p.frames;
-      held = subst (FairStore m h) (sym q.entries) p.held;
-    }
-
--- of the locals of the frames that stand
-module _ (m : Module) (h : List Made) (s : Sight) (fair : Fair m h s) where
-  pub fair_locals : (k x : ℕ) (f : Frame) (v : Mark) → slice_get s.state.stack k ≡ Some f → slice_get f.locals x ≡ Some (Marked v) → Known m h v
-  fair_locals k x f v e i = (fair.frames k f e).known x v i
-
-  pub fair_typed : (k x : ℕ) (f : Frame) (v : Mark) → slice_get s.state.stack k ≡ Some f → slice_get f.locals x ≡ Some (Marked v) → sensitive m f x ≡ true
-  fair_typed k x f v e i = (fair.frames k f e).typed x v i
+fair_quiet m h s s' p q = record { frames = rw (q.stack) p.frames; held = rw (q.entries) p.held }

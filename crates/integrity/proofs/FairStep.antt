@@ -1,6 +1,6 @@
 -- A made step keeps a run fair.
-use Rattle.std.proofs.Common.{◌≡◌, ◌≢◌, ℕ, ◌+◌, ◌*◌, ◌<◌, ◌≤◌, ◌⊎◌, ⊎_elim, true, false, List, [], ◌∷◌, ◌++◌, length, Some, Ok, refl, sym, ap, ◌∙◌, subst, nat_le, arith}
-use Rattle.std.proofs.lemmas.Bool.{both_ways, cases_eq, cases_lt, and_parts, leb-true}
+use Rattle.std.proofs.Common.{◌≡◌, ◌≢◌, ℕ, ◌+◌, ◌*◌, ◌<◌, ◌≤◌, ⊎_elim, true, false, List, [], ◌∷◌, ◌++◌, length, Some, Ok, refl, sym, ap, ◌∙◌, subst, arith}
+use Rattle.std.proofs.lemmas.Bool.{both_ways, cases_eq, cases_lt}
 use Rattle.std.proofs.lemmas.Option.{same_Some, none-some}
 use Rattle.content.specs.declared.instruction.Instruction.{Instruction}
 use Rattle.content.specs.declared.instruction.Instruction.TheVariants as op
@@ -15,13 +15,15 @@ use Rattle.machine.specs.declared.frame.Frame.{Frame}
 use Rattle.machine.specs.declared.event.Event.{Event}
 use Rattle.machine.specs.Values.{word, bounds_of, data_in, within}
 use Rattle.machine.specs.Frames.{value}
-use Rattle.machine.specs.Machine.{State, Entries, Taken, Sight, Act, Acts, Left, Step, behind, sensitive, size, start_of, bounds, make}
+use Rattle.machine.specs.Machine.{State, Entries, Taken, Sight, Act, Acts, Left, Step, behind, sensitive, size, start_of, bounds}
 use Rattle.machine.specs.Goes.{Made, made}
-use Rattle.integrity.specs.Histories.{newest, Did, global, block, Known}
-use Rattle.integrity.proofs.Forms.{Gives, address, named, moved, cast, field, field_plain, loaded, Writes, put, dropped, written, Form, gave, allocated, went, wrote, entered_in, left, formed}
-use Rattle.integrity.proofs.Runs.{Turn, turned}
+use Rattle.machine.proofs.Bounding.{bounds_are, within_parts}
+use Rattle.integrity.specs.Histories.{Did, global, block, Known}
+use Rattle.integrity.proofs.Forms.{Gives, address, named, moved, cast, field, field_plain, loaded, Writes, put, dropped, written, Form, gave, allocated, went, wrote, entered_in, left}
+use Rattle.integrity.proofs.Runs.{turned, did_turn, form_turn}
 use Rattle.integrity.proofs.Each.{Each, each_cons, each_first, each_rest, get_last}
-use Rattle.integrity.proofs.Fair.{FairFrame, FairStore, Fair, Ending, KnownValue, marked_known, plain_known, data_known, read_known, with_word_known, known_more, value_there, bounds_are, no_room, begun_frame, at_place_fair, given_fair, frame_more}
+use Rattle.integrity.proofs.Sizes.{start_behind}
+use Rattle.integrity.proofs.Fair.{FairFrame, FairStore, Fair, Ending, KnownValue, marked_known, plain_known, data_known, read_known, with_word_known, known_more, value_there, begun_frame, at_place_fair, given_fair, frame_more}
 
 -- a step of the frame f above the others
 module _ (m : Module) (h : List Made) (s : Sight) (f : Frame) (rest : List Frame) (d : Made) (fair : Fair m h s) (stack_is : s.state.stack ≡ f ∷ rest) where
@@ -49,14 +51,13 @@ module _ (m : Module) (h : List Made) (s : Sight) (f : Frame) (rest : List Frame
   in_memory ending y a b e w =
       let k : Known m h (Data a b) = before_frame.known y (Data a b) (value_there f y (Data a b) e) in
       let l : b.high ≤ (said m).memory = ending k.0 b.low b.high k.1 in
-      let u : a + 1 ≤ b.high = leb-true (a + 1) b.high (and_parts (nat_le b.low a) (nat_le (a + 1) b.high) w).1 in
-      omega arith
+      omega (arith, l, (within_parts b a 1 w).1)
 
   global_known : (g w : ℕ) (b : Bounds) → bounds m s f rest g ≡ Some b → Known m (h ++ d ∷ []) (Data w b)
   global_known g w b e =
       let c = said m in
       let p = bounds_are (start_of c.types c.globals g) (start_of c.types c.globals (g + 1)) b e in
-      let there : g < length c.globals = ⊎_elim (λ l. l) (λ l. absurd (no_room c.types c.globals g l p.2)) (cases_lt g (length c.globals)) in
+      let there : g < length c.globals = ⊎_elim (λ l. l) (λ l. absurd (omega (arith, p.2, start_behind c.types c.globals g l, start_behind c.types c.globals (g + 1) (omega (arith, l))))) (cases_lt g (length c.globals)) in
       (global g, record { there = there; low_is = p.0; high_is = p.1 })
 
   gives_known : Ending m h → {i : Instruction} {e : Event} {x : ℕ} {v : Value} → Gives m s f rest i e x v → Did m d f i → KnownValue m (h ++ d ∷ []) v
@@ -103,27 +104,20 @@ module _ (m : Module) (h : List Made) (s : Sight) (f : Frame) (rest : List Frame
   writes_held e' t' (dropped x y a n b t x_is y_is l) p = other_held e' a p.others (λ w q. absurd (none-some w (sym p.gone ∙ q)))
   writes_held e' t' (written x y t) p = same_held e' p.0
 
-  held_after : {i : Instruction} {e : Event} {l : Left} (e' : Entries) (t' : Taken) → Form m s f rest i e l → Acts l.act s.entries s.taken e' t' → FairStore m (h ++ d ∷ []) e'
-  held_after e' t' (gave x v g is) q = same_held e' (rw is at q).0
-  held_after e' t' (allocated x y i_is nonzero fits e_is is) q = same_held e' (rw is at q).0
-  held_after e' t' (went p n e_is is) q = same_held e' (rw is at q).0
-  held_after e' t' (wrote act memory p e_is is) q = writes_held e' t' p (rw is at q)
-  held_after e' t' (entered_in k g p room e_is is) q = same_held e' (rw is at q).0
-  held_after e' t' (left i_is e_is is) q = same_held e' (rw is at q).0
-
--- the made step's own frame and instruction
-pub did_turn : (m : Module) (s : Sight) (e : Event) (s' : Sight) (t : Turn m s e s') → Did m (made s e s') t.frame t.instr
-did_turn m s e s' t = record { frame = ap newest t.stack_is; instruction_is = t.instruction_is }
-
-pub form_turn : (m : Module) (s : Sight) (e : Event) (s' : Sight) (t : Turn m s e s') → Form m s t.frame t.others t.instr e (make m s t.frame t.others t.instr)
-form_turn m s e s' t = formed m s t.frame t.others t.instr e t.answer
+  store_after : {i : Instruction} {e : Event} {l : Left} (e' : Entries) (t' : Taken) → Form m s f rest i e l → Acts l.act s.entries s.taken e' t' → FairStore m (h ++ d ∷ []) e'
+  store_after e' t' (gave x v g is) q = same_held e' (rw is at q).0
+  store_after e' t' (allocated x y i_is nonzero fits e_is is) q = same_held e' (rw is at q).0
+  store_after e' t' (went p n e_is is) q = same_held e' (rw is at q).0
+  store_after e' t' (wrote act memory p e_is is) q = writes_held e' t' p (rw is at q)
+  store_after e' t' (entered_in k g p room e_is is) q = same_held e' (rw is at q).0
+  store_after e' t' (left i_is e_is is) q = same_held e' (rw is at q).0
 
 pub fair_step : (m : Module) (h : List Made) (s s' : Sight) (e : Event) → Ending m h → Fair m h s → Step m s (Ok e) s' → Fair m (h ++ made s e s' ∷ []) s'
 fair_step m h s s' e ending fair p =
     let t = turned m s e s' p in
     let d = made s e s' in
-    let form = form_turn m s e s' t in
+    let form = form_turn t in
     record {
-      frames = subst (λ (l : State). Each (FairFrame m (h ++ d ∷ [])) l.stack) (sym t.does.state) (frames_after m h s t.frame t.others d fair t.stack_is ending refl (did_turn m s e s' t) form);
-      held = held_after m h s t.frame t.others d fair t.stack_is s'.entries s'.taken form t.does.store;
+      frames = subst (λ (l : State). Each (FairFrame m (h ++ d ∷ [])) l.stack) (sym t.does.state) (frames_after m h s t.frame t.others d fair t.stack_is ending refl (did_turn t) form);
+      held = store_after m h s t.frame t.others d fair t.stack_is s'.entries s'.taken form t.does.store;
     }

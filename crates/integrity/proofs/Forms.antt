@@ -1,5 +1,5 @@
 -- What a made step can leave, with what is then known: one form for each way that a step can be made.
-use Rattle.std.specs.Prelude.{◌≡◌, ℕ, ◌+◌, ◌*◌, ◌<◌, ◌≤◌, Bool, true, false, cond, ◌⊎◌, ◌||◌, ◌==◌, nat_lt, List, [], ◌∷◌, length, Some, Ok, Err, Result}
+use Rattle.std.specs.Prelude.{◌≡◌, ℕ, ◌+◌, ◌*◌, ◌<◌, ◌≤◌, true, false, ◌⊎◌, ◌||◌, ◌==◌, nat_lt, List, [], ◌∷◌, length, Ok, Err, Result}
 use Rattle.std.proofs.Common.{refl, inl, inr, subst}
 use Rattle.std.proofs.lemmas.Bool.{cond_both, ltb-true, ltb-false, eqb-false, or_parts}
 use Rattle.content.specs.declared.instruction.Instruction.{Instruction}
@@ -14,7 +14,7 @@ use Rattle.machine.specs.declared.value.Value.TheVariants.{Plain, Marked}
 use Rattle.machine.specs.declared.frame.Frame.{Frame}
 use Rattle.machine.specs.declared.event.Event.{Event}
 use Rattle.machine.specs.declared.event.EventKind.{EventKind}
-use Rattle.machine.specs.declared.event.EventKind.TheVariants.{Other, Called, CalledThrough, Returned, Ended, Branched, Moved, Allocated}
+use Rattle.machine.specs.declared.event.EventKind.TheVariants.{Called, CalledThrough, Returned, Ended, Branched, Moved, Allocated}
 use Rattle.machine.specs.declared.refusal.Stop.{Stop}
 use Rattle.machine.specs.declared.refusal.Stop.TheVariants.{Address, NotData, Outside, NotCode, StackFull, HeapFull, NotTaken}
 use Rattle.machine.specs.declared.refusal.Refusal.{Refusal}
@@ -22,7 +22,7 @@ use Rattle.machine.specs.declared.refusal.Refusal.TheVariants.{Stopped}
 use Rattle.machine.specs.Values.{word, with_word, bounds_of, data_in, within, read, wrapped}
 use Rattle.machine.specs.Frames.{entered, value}
 use Rattle.machine.specs.Events.{event, other}
-use Rattle.machine.specs.Machine.{Sight, Act, keeps, puts, drops, Left, Does, Step, makes, gives, goes, writes, given, behind, sensitive, size, start_of, bounds, stops, enter, enter_through, leave, branch, allocate, move, field_within, load_within, keep, store_within, make}
+use Rattle.machine.specs.Machine.{Sight, Act, keeps, puts, drops, Left, makes, gives, goes, writes, given, behind, sensitive, size, start_of, bounds, stops, enter, enter_through, leave, branch, allocate, move, field_within, load_within, keep, store_within, make}
 
 module _ (m : Module) (s : Sight) (f : Frame) (rest : List Frame) where
   -- why a place is the next: it is behind the instruction, or a jump or a branch names it

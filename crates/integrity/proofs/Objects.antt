@@ -1,7 +1,6 @@
 -- Globals and blocks don't overlap, and lie within the memory: what stays so through a run.
-use Rattle.std.proofs.Common.{◌≡◌, ◌≢◌, ℕ, zero, suc, ◌+◌, ◌*◌, ◌<◌, ◌≤◌, ◌⊎◌, inl, inr, List, [], ◌∷◌, ◌++◌, length, Some, Ok, refl, sym, ap, ◌∙◌, subst, arith, ⊎_elim}
+use Rattle.std.proofs.Common.{◌≡◌, ◌≢◌, ℕ, ◌+◌, ◌*◌, ◌<◌, ◌≤◌, ◌⊎◌, inl, inr, List, [], ◌∷◌, ◌++◌, length, Some, Ok, refl, sym, ap, ◌∙◌, subst, arith, ⊎_elim}
 use Rattle.std.proofs.Math.Nat.{mul-pos}
-use Rattle.std.specs.List.{slice_get}
 use Rattle.std.proofs.lemmas.Bool.{cases_lt}
 use Rattle.std.proofs.lemmas.Option.{slice_get_within}
 use Rattle.content.specs.declared.instruction.Instruction.{Instruction}
@@ -13,13 +12,14 @@ use Rattle.machine.specs.declared.frame.Frame.{Frame}
 use Rattle.machine.specs.declared.event.Event.{Event}
 use Rattle.machine.specs.Values.{word}
 use Rattle.machine.specs.Frames.{value}
-use Rattle.machine.specs.Machine.{State, Sight, Left, Step, instruction, size, make}
+use Rattle.machine.specs.Machine.{State, Sight, Left, Step, size, make}
 use Rattle.machine.specs.Goes.{Made, made}
-use Rattle.integrity.specs.Histories.{Did, Allocated, Name, global, block, Block, Object}
+use Rattle.integrity.specs.Histories.{Allocated, Name, global, block, Block, Object}
 use Rattle.integrity.specs.Integrity.{Begun}
-use Rattle.integrity.proofs.Forms.{Form, gave, allocated, went, wrote, entered_in, left, formed}
-use Rattle.integrity.proofs.Runs.{Quiet, Turn, turned}
-use Rattle.integrity.proofs.Sizes.{globals_fit, global_some, global_within, allocate_some, starts_up}
+use Rattle.integrity.proofs.Each.{get_cases}
+use Rattle.integrity.proofs.Forms.{Form, gave, allocated, went, wrote, entered_in, left}
+use Rattle.integrity.proofs.Runs.{Quiet, Turn, turned, turn_is, form_turn}
+use Rattle.integrity.proofs.Sizes.{globals_fit, global_some, start_before, start_within, allocate_some, starts_up}
 
 -- the heap begins behind the globals, and the blocks fill it in the order in which they were allocated
 pub record Laid (m : Module) (h : List Made) (s : Sight) : Type 0 where
@@ -34,19 +34,12 @@ record Grows (m : Module) (s : Sight) (d : Made) (s' : Sight) : Type 0 where
   upto : s'.state.heap ≤ (said m).memory
   new : (low high : ℕ) → Allocated m d low high → (low ≡ s.state.heap) × (low < high) × (high ≡ s'.state.heap)
 
--- a step of a longer history is one of the history, or the new one
-at_more : {X : Type 0} (h : List X) (d x : X) (n : ℕ) → slice_get (h ++ d ∷ []) n ≡ Some x → (slice_get h n ≡ Some x) ⊎ ((n ≡ length h) × (d ≡ x))
-at_more [] d x zero e = inr (refl, cc)
-at_more [] d x (suc n) e = absurd (cc)
-at_more (y ∷ h) d x zero e = inl e
-at_more (y ∷ h) d x (suc n) e = ⊎_elim (λ a. inl a) (λ a. inr (omega (arith, a.0), a.1)) (at_more h d x n e)
-
 module _ (m : Module) where
   block_more : (h : List Made) (d : Made) (n low high : ℕ) → Block m (h ++ d ∷ []) n low high → Block m h n low high ⊎ ((n ≡ length h) × Allocated m d low high)
   block_more h d n low high b = ⊎_elim
       (λ a. inl (record { step = b.step; at = a; allocated = b.allocated }))
       (λ a. inr (a.0, subst (λ (c : Made). Allocated m c low high) (sym a.1) b.allocated))
-      (at_more h d b.step n b.at)
+      (get_cases h d n b.step b.at)
 
   block_before : (h : List Made) (n low high : ℕ) → Block m h n low high → n < length h
   block_before h n low high b = slice_get_within h n b.step b.at
@@ -96,19 +89,10 @@ module _ (m : Module) where
     stays i e l u (entered_in k g n b q is) = ap (λ (k : Left). k.state.heap) is
     stays i e l u (left q k is) = ap (λ (k : Left). k.state.heap) is
 
-  -- what the new step did is the turn's
-  pub turn_is : {s : Sight} {e : Event} {s' : Sight} {f : Frame} {i : Instruction} (t : Turn m s e s') → Did m (made s e s') f i → (f ≡ t.frame) × (i ≡ t.instr)
-  turn_is {s} {e} {s'} {f} {i} t did =
-      let p : Some t.frame ≡ Some f = rw t.stack_is at did.frame in
-      let q : f ≡ t.frame = cc in
-      let r : instruction m t.frame ≡ Some i = rw q at did.instruction_is in
-      let u = t.instruction_is in
-      (q, cc)
-
   grows : (s : Sight) (e : Event) (s' : Sight) → s.state.heap ≤ (said m).memory → Turn m s e s' → Grows m s (made s e s') s'
   grows s e s' upto t =
       let f = t.frame in
-      let form = formed m s f t.others t.instr e t.answer in
+      let form = form_turn t in
       let heap : s'.state.heap ≡ (make m s f t.others t.instr).state.heap = ap (λ (k : State). k.heap) t.does.state in
       ⊎_elim
       (λ (x, y, q).
@@ -167,8 +151,8 @@ apart_of {m} l (global k) (global k') low high low' high' ne a b =
     (λ lt. inl (omega (arith, a.high_is, b.low_is, up (k + 1) k' (omega (arith, lt)))))
     (λ le. let u : k ≢ k' = λ e. ne (ap global e) in inr (omega (arith, b.high_is, a.low_is, up (k' + 1) k (omega (arith, le, u)))))
     (cases_lt k k')
-apart_of {m} l (global k) (block n) low high low' high' ne a b = inl (omega (arith, a.high_is, global_within m (k + 1), (l.blocks n low' high' b).0))
-apart_of {m} l (block n) (global k) low high low' high' ne a b = inr (omega (arith, b.high_is, global_within m (k + 1), (l.blocks n low high a).0))
+apart_of {m} l (global k) (block n) low high low' high' ne a b = inl (omega (arith, a.high_is, start_before m (k + 1), (l.blocks n low' high' b).0))
+apart_of {m} l (block n) (global k) low high low' high' ne a b = inr (omega (arith, b.high_is, start_before m (k + 1), (l.blocks n low high a).0))
 apart_of l (block n) (block n') low high low' high' ne a b =
     ⊎_elim
     (λ lt. inl (l.apart n n' low high low' high' lt a b))
@@ -177,5 +161,5 @@ apart_of l (block n) (block n') low high low' high' ne a b =
 
 -- each has a word at least, and lies within the memory
 pub inside_of : {m : Module} {h : List Made} {s : Sight} → Laid m h s → (o : Name) (low high : ℕ) → Object m h o low high → (low < high) × (high ≤ (said m).memory)
-inside_of {m} l (global k) low high a = (omega (arith, a.low_is, a.high_is, global_some m k a.there), omega (arith, a.high_is, global_within m (k + 1), globals_fit m))
+inside_of {m} l (global k) low high a = (omega (arith, a.low_is, a.high_is, global_some m k a.there), omega (arith, a.high_is, start_within m (k + 1)))
 inside_of l (block n) low high a = let o = l.blocks n low high a in (o.1, omega (arith, o.2, l.upto))

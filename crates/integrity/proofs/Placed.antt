@@ -1,21 +1,14 @@
 -- Every standing frame has an instruction whose turn it is, and every function whose address was taken is there.
-use Rattle.std.specs.Prelude.{ℕ, zero, suc, ◌+◌, ◌*◌, ◌<◌, ◌≤◌, true, false, nat_lt, List, [], ◌∷◌, ◌++◌, length, drop, Some, Ok, Option}
+use Rattle.std.specs.Prelude.{ℕ, ◌+◌, ◌<◌, ◌≤◌, false, nat_lt, List, [], ◌∷◌, length, Some, Ok}
 use Rattle.std.specs.List.{slice_get}
-use Rattle.std.proofs.Common.{◌≡◌, sym, refl, ap, ◌∙◌, subst, inl, inr, arith, rules}
+use Rattle.std.proofs.Common.{◌≡◌, refl, ap, ◌∙◌, inl, inr, arith}
 use Rattle.std.proofs.lemmas.Bool.{ltb-true, leb-true, lt-ltb, and_parts, cond-true, cases_eq, both_ways}
 use Rattle.std.proofs.lemmas.Option.{slice_get_cases}
 use native.Mathlib.Bridge.{le_prop}
-use Rattle.records.specs.Records.{records}
-use Rattle.records.proofs.Runs.{led}
-use Rattle.content.specs.Records.{function_from}
 use Rattle.content.specs.declared.function.Function.{Function}
 use Rattle.content.specs.declared.instruction.Instruction.{Instruction}
 use Rattle.content.specs.declared.instruction.Instruction.TheVariants as op
-use Rattle.header.specs.declared.counts.Counts.{Counts}
-use Rattle.header.specs.Header.{ranged, functions_at, counts_in}
-use Rattle.parts.specs.Content.{Content}
-use Rattle.parts.specs.Holding.{Holds}
-use Rattle.rules.specs.Keeping.{named, ends}
+use Rattle.rules.specs.Keeping.{ends}
 use Rattle.module.specs.Modules.{said, in_function}
 use Rattle.module.specs.declared.module.Module.{Module}
 use Rattle.machine.specs.declared.frame.Frame.{Frame}
@@ -25,58 +18,19 @@ use Rattle.machine.specs.declared.event.EventKind.{EventKind}
 use Rattle.machine.specs.declared.event.EventKind.TheVariants.{CalledThrough}
 use Rattle.machine.specs.declared.value.Value.{Value}
 use Rattle.machine.specs.Events.{event}
-use Rattle.machine.specs.Machine.{Sight, Left, Act, Step, instruction}
-use Rattle.machine.specs.Goes.{Made, made}
+use Rattle.machine.specs.Machine.{Sight, Left, Act, Step, instruction, given, behind}
+use Rattle.machine.specs.Goes.{Made}
 use Rattle.integrity.specs.Histories.{TookBy}
 use Rattle.integrity.specs.Integrity.{Begun}
-use Rattle.integrity.proofs.Forms.{Next, behind_branch, by_branch, by_jump, Gives, Writes, Enters, called, called_through, Form, gave, allocated, went, wrote, entered_in, left, formed}
-use Rattle.integrity.proofs.Runs.{Quiet, turned}
+use Rattle.integrity.proofs.Forms.{Next, behind_branch, by_branch, by_jump, Gives, Writes, Enters, called, called_through, Form, gave, allocated, went, wrote, entered_in, left}
+use Rattle.integrity.proofs.Runs.{Quiet, turned, form_turn}
+use Rattle.integrity.proofs.Each.{Each, each_none, each_cons, each_rest}
+use Rattle.integrity.proofs.Read.{functions_some, some_function}
 use Rattle.integrity.proofs.Rules.{Ruled, ruled}
 
-module _ {R : Type 0} (meant : List ℕ → Option R) (w : ℕ) where
-  records_count : (n : ℕ) (s : List ℕ) (xs : List R) → records meant w n s ≡ Ok xs → length xs ≡ n
-  records_count zero s xs e = let z : [] ≡ xs = cc in ap length (sym z)
-  records_count (suc n) s xs e = let l = led _ _ xs e in ap length l.all_is ∙ ap suc (records_count n (drop (4 * w) s) l.tail l.tail_is)
-
-  -- what is so of each record that words mean is so of each record that is read
-  records_each : (P : R → Type 0) → ((ws : List ℕ) (r : R) → meant ws ≡ Some r → P r) → (n : ℕ) (s : List ℕ) (xs : List R) → records meant w n s ≡ Ok xs → (k : ℕ) (r : R) → slice_get xs k ≡ Some r → P r
-  records_each P each n s [] e k r q = absurd (cc)
-  records_each P each zero s (x ∷ xs) e k r q = absurd (cc)
-  records_each P each (suc n) s (x ∷ xs) e zero r q =
-      let l = led _ _ (x ∷ xs) e in
-      let z : l.head ≡ r = cc (l.all_is) in
-      subst P z (each _ l.head l.head_is)
-  records_each P each (suc n) s (x ∷ xs) e (suc k) r q =
-      let l = led _ _ (x ∷ xs) e in
-      let z : xs ≡ l.tail = cc (l.all_is) in
-      records_each P each n (drop (4 * w) s) l.tail l.tail_is k r (rw (← z) q)
-
-function_some : (ws : List ℕ) (g : Function) → function_from ws ≡ Some g → 0 < g.count
-function_some ws g e = search rules
-
-functions_some : (m d : ℕ) (n : Counts) → ranged m d n ≡ true → 0 < n.functions
-functions_some m d n e = search rules
-
-module _ (s : List ℕ) (c : Content) (h : Holds s c) where
-  lists_some : 0 < length c.functions
-  lists_some =
-      let n = records_count function_from 4 (counts_in s).functions (drop (functions_at (counts_in s)) s) c.functions h.listed.functions_are in
-      let p = functions_some c.memory c.depth (counts_in s) h.headed.in_range in
-      omega (arith, n, p)
-
-  each_some : (k : ℕ) (g : Function) → slice_get c.functions k ≡ Some g → 0 < g.count
-  each_some = records_each function_from 4 (λ r. 0 < r.count) function_some (counts_in s).functions (drop (functions_at (counts_in s)) s) c.functions h.listed.functions_are
-
 module _ (m : Module) where
-  some_functions : 0 < length (said m).functions
-  some_functions = ∥∥₁_rec le_prop (λ y. lists_some _ (said m) y.holds) m.follows
-
-  module _ (k : ℕ) (g : Function) (is : slice_get (said m).functions k ≡ Some g) where
-    some_code : 0 < g.count
-    some_code = ∥∥₁_rec le_prop (λ y. each_some _ (said m) y.holds k g is) m.follows
-
-    code_fits : g.first + g.count ≤ length (said m).code
-    code_fits = ∥∥₁_rec le_prop (λ y. leb-true _ _ (and_parts _ _ (y.named.functions k g is)).0) m.follows
+  code_fits : (k : ℕ) (g : Function) → slice_get (said m).functions k ≡ Some g → g.first + g.count ≤ length (said m).code
+  code_fits k g is = ∥∥₁_rec le_prop (λ y. leb-true _ _ (and_parts _ _ (y.named.functions k g is)).0) m.follows
 
   abbrev Has : Frame → Type 0
   Has f = (i : Instruction) × (instruction m f ≡ Some i)
@@ -94,23 +48,13 @@ module _ (m : Module) where
   has_entered : (g : ℕ) → g < length (said m).functions → Has (entered g)
   has_entered g lt =
       elim (slice_get_cases (said m).functions g).1 [
-        | inl t ↦ has_at (entered g) t.0 t.2 (some_code g t.0 t.2)
+        | inl t ↦ has_at (entered g) t.0 t.2 (functions_some m g t.0 t.2)
         | inr t ↦ absurd (omega arith)
       ]
 
-  -- each of these frames has one
-  record Standing (fs : List Frame) : Type 0 where
-    each : (k : ℕ) (f : Frame) → slice_get fs k ≡ Some f → Has f
-
-  each_above : (f : Frame) (rest : List Frame) → Has f → Standing rest → (k : ℕ) (g : Frame) → slice_get (f ∷ rest) k ≡ Some g → Has g
-  each_above f rest h t zero g e = let z : f ≡ g = cc in subst Has z h
-  each_above f rest h t (suc k) g e = t.each k g e
-
-  above : {f : Frame} {rest : List Frame} → Has f → Standing rest → Standing (f ∷ rest)
-  above {f} {rest} h t = record { each = each_above f rest h t }
-
-  below : {f : Frame} {rest : List Frame} → Standing (f ∷ rest) → Standing rest
-  below t = record { each = λ k g e. t.each (suc k) g e }
+  -- each standing frame has one
+  abbrev pub Standing : List Frame → Type 0
+  Standing = Each Has
 
   -- a function whose address was taken is there
   pub named_of : (h : List Made) (g : ℕ) → TookBy m h g → g < length (said m).functions
@@ -141,8 +85,8 @@ module _ (m : Module) (s : Sight) (f : Frame) (rest : List Frame) where
     on i r n = elim (cases_eq (f.place + 1) r.owner.count) [ inl q ↦ absurd (both_ways (ends i) n (r.last q)) | inr q ↦ omega (arith, r.within) ]
 
     -- the frame at a place of its function, whatever it holds
-    at_next : (i : Instruction) (r : Ruled m f i) {p : ℕ} {xs : List Value} → p < r.owner.count → Standing m (record { function = f.function; place = p; locals = xs } ∷ rest)
-    at_next i r {p} {xs} lt = above m (has_at m (record { function = f.function; place = p; locals = xs }) r.owner r.owner_is lt) callers
+    at_next : (i : Instruction) (r : Ruled m f i) (xs : List Value) {p : ℕ} → p < r.owner.count → Standing m (record { function = f.function; place = p; locals = xs } ∷ rest)
+    at_next i r xs {p} lt = each_cons (Has m) _ rest (has_at m (record { function = f.function; place = p; locals = xs }) r.owner r.owner_is lt) callers
 
     -- the next place lies within the function
     next : (i : Instruction) (r : Ruled m f i) (p : ℕ) → Next m s f rest i p → p < r.owner.count
@@ -156,28 +100,26 @@ module _ (m : Module) (s : Sight) (f : Frame) (rest : List Frame) where
 
     -- after a step with a form, each frame has an instruction
     stands : (i : Instruction) (l : Left) → Ruled m f i → Form m s f rest i e l → Standing m l.state.stack
-    stands i l r (gave x v g q) = rw q (at_next i r (on i r (gives_on i e x v g)))
-    stands i l r (allocated x y q n b h k) = rw k (at_next i r (on i r (ap ends q)))
-    stands i l r (went p n h q) = rw q (at_next i r (next i r p n))
-    stands i l r (wrote act memory w h q) = rw q (at_next i r (on i r (writes_on i act w)))
-    stands i l r (entered_in k g w b h q) = rw q (above m (has_entered m g (enters_there i r k g h w)) (at_next i r (on i r (enters_on i k g w))))
+    stands i l r (gave x v g q) = rw q (at_next i r (given m f x v).locals (on i r (gives_on i e x v g)))
+    stands i l r (allocated x y q n b h k) = rw k (at_next i r _ (on i r (ap ends q)))
+    stands i l r (went p n h q) = rw q (at_next i r f.locals (next i r p n))
+    stands i l r (wrote act memory w h q) = rw q (at_next i r f.locals (on i r (writes_on i act w)))
+    stands i l r (entered_in k g w b h q) = rw q (each_cons (Has m) (entered g) (behind f ∷ rest) (has_entered m g (enters_there i r k g h w)) (at_next i r f.locals (on i r (enters_on i k g w))))
     stands i l r (left q h k) = rw k callers
 
 -- each standing frame has an instruction whose turn it is
-pub record Placed (m : Module) (h : List Made) (s : Sight) : Type 0 where
-  pub frames : (k : ℕ) (f : Frame) → slice_get s.state.stack k ≡ Some f → (i : Instruction) × (instruction m f ≡ Some i)
+abbrev pub Placed : Module → Sight → Type 0
+Placed m s = Standing m s.state.stack
 
-pub placed_begin : (m : Module) (s : Sight) → Begun m s → Placed m [] s
-placed_begin m s b =
-    let a : Standing m (entered 0 ∷ []) = above m (has_entered m 0 (some_functions m)) (record { each = λ k f e. absurd (cc) }) in
-    record { frames = rw (b.state) a.each }
+pub placed_begin : (m : Module) (s : Sight) → Begun m s → Placed m s
+placed_begin m s b = rw (b.state) (each_cons (Has m) (entered 0) [] (has_entered m 0 (some_function m)) (each_none (Has m)))
 
-pub placed_quiet : (m : Module) (h : List Made) (s s' : Sight) → Quiet s s' → Placed m h s → Placed m h s'
-placed_quiet m h s s' q p = record { frames = rw (q.stack) p.frames }
+pub placed_quiet : (m : Module) (s s' : Sight) → Quiet s s' → Placed m s → Placed m s'
+placed_quiet m s s' q p = rw (q.stack) p
 
-pub placed_step : (m : Module) (h : List Made) (s : Sight) (e : Event) (s' : Sight) → Placed m h s → ((g : ℕ) → e ≡ event CalledThrough g → TookBy m h g) → Step m s (Ok e) s' → Placed m (h ++ made s e s' ∷ []) s'
+pub placed_step : (m : Module) (h : List Made) (s : Sight) (e : Event) (s' : Sight) → Placed m s → ((g : ℕ) → e ≡ event CalledThrough g → TookBy m h g) → Step m s (Ok e) s' → Placed m s'
 placed_step m h s e s' p took step =
     let t = turned m s e s' step in
-    let a : Standing m (t.frame ∷ t.others) = record { each = rw (t.stack_is) at p.frames } in
-    let b = stands m s t.frame t.others e (λ g q. named_of m h g (took g q)) (below m a) t.instr _ (ruled m t.frame t.instr t.instruction_is) (formed m s t.frame t.others t.instr e t.answer) in
-    record { frames = rw (t.does.state) b.each }
+    let a : Standing m (t.frame ∷ t.others) = rw (t.stack_is) at p in
+    let callers = each_rest (Has m) t.frame t.others a in
+    rw (t.does.state) (stands m s t.frame t.others e (λ g q. named_of m h g (took g q)) callers t.instr _ (ruled m t.frame t.instr t.instruction_is) (form_turn t))

@@ -1,7 +1,7 @@
 -- A made step enters through a pointer only a function whose address was taken, and reaches nothing outside the bounds of a marked value.
-use Rattle.std.proofs.Common.{◌≡◌, ℕ, ◌+◌, ◌⊎◌, ⊎_elim, true, false, List, Some, Ok, Option, sym, ap, ◌∙◌, subst, nat_le}
-use Rattle.std.proofs.lemmas.Bool.{both_ways, and_parts, leb-true}
-use Rattle.std.proofs.lemmas.Option.{same_Some, some_pair_parts}
+use Rattle.std.proofs.Common.{◌≡◌, ℕ, ⊎_elim, true, false, List, Some, Ok, Option, sym, ap, ◌∙◌, subst}
+use Rattle.std.proofs.lemmas.Bool.{both_ways}
+use Rattle.std.proofs.lemmas.Option.{some_pair_parts}
 use Rattle.content.specs.declared.instruction.Instruction.{Instruction}
 use Rattle.tables.specs.Tables.{words}
 use Rattle.module.specs.declared.module.Module.{Module}
@@ -14,18 +14,19 @@ use Rattle.machine.specs.declared.frame.Frame.{Frame}
 use Rattle.machine.specs.declared.event.Event.{Event}
 use Rattle.machine.specs.declared.event.EventKind.{EventKind}
 use Rattle.machine.specs.declared.event.EventKind.TheVariants.{Other, CalledThrough, Returned, Ended, Branched, Allocated as AllocatedIs}
-use Rattle.machine.specs.Values.{word, within}
+use Rattle.machine.specs.Values.{within}
 use Rattle.machine.specs.Events.{event}
 use Rattle.machine.specs.Frames.{value}
-use Rattle.machine.specs.Machine.{Sight, Act, Left, Step, sensitive, size, bounds, instruction}
+use Rattle.machine.specs.Machine.{Sight, Act, Left, Step, sensitive, size, instruction}
 use Rattle.machine.specs.Goes.{Made, made}
-use Rattle.integrity.specs.Histories.{newest, Did, TookBy, through}
+use Rattle.machine.proofs.Bounding.{within_parts}
+use Rattle.integrity.specs.Histories.{Did, TookBy, through}
 use Rattle.integrity.specs.Integrity.{Inside}
 use Rattle.integrity.proofs.Forms.{Next, behind_branch, by_branch, by_jump, Gives, moved, field, field_plain, loaded, loaded_plain, Writes, put, dropped, written, Enters, called, called_through, Form, gave, allocated, went, wrote, entered_in, left}
-use Rattle.integrity.proofs.Runs.{Turn, turned}
+use Rattle.integrity.proofs.Runs.{Turn, turned, turn_is, form_turn}
 use Rattle.integrity.proofs.Typed.{through_load, through_store}
 use Rattle.integrity.proofs.Fair.{some_marked, FairFrame, Fair, value_there}
-use Rattle.integrity.proofs.FairStep.{before_frame, form_turn}
+use Rattle.integrity.proofs.FairStep.{before_frame}
 
 -- an event of another kind isn't that of a function entered through a pointer
 unlike : (e : Event) (k : EventKind) (n g : ℕ) → (k ≡ CalledThrough → ⊥) → e ≡ event k n → e ≡ event CalledThrough g → ⊥
@@ -50,32 +51,30 @@ module _ (m : Module) (h : List Made) (s : Sight) (f : Frame) (rest : List Frame
   through_known (entered_in k g' p room q is) g e_is = enters_known p g (sym q ∙ e_is)
   through_known (left i_is q is) g e_is = absurd (⊎_elim (λ z. unlike _ Returned 0 g (λ w. cc) z e_is) (λ z. unlike _ Ended 0 g (λ w. cc) z e_is) q)
 
-  -- what is reached
-  inside_of : (y a words : ℕ) (b : Bounds) (v : Mark) → value f y ≡ Marked (Data a b) → within b a words ≡ true → value f y ≡ Marked v → Inside v words
-  inside_of y a words b v is l e =
-      let p = and_parts (nat_le b.low a) (nat_le (a + words) b.high) l in
-      record { word = a; bounds = b; is = some_marked v (Data a b) (sym e ∙ is); from = leb-true b.low a p.0; upto = leb-true (a + words) b.high p.1 }
+  -- nothing is reached through a mark but within its bounds
+  abbrev pub Reaches : Option (ℕ × ℕ) → Type 0
+  Reaches o = (y words : ℕ) (v : Mark) → o ≡ Some (y, words) → value f y ≡ Marked v → Inside v words
 
-  inside_at : (y a n : ℕ) (b : Bounds) → value f y ≡ Marked (Data a b) → within b a n ≡ true → (y' words : ℕ) (v : Mark) → ◌≡◌ {A = Option (ℕ × ℕ)} (Some (y, n)) (Some (y', words)) → value f y' ≡ Marked v → Inside v words
+  inside_at : (y a n : ℕ) (b : Bounds) → value f y ≡ Marked (Data a b) → within b a n ≡ true → Reaches (Some (y, n))
   inside_at y a n b is l y' words v q e =
       let p = some_pair_parts y y' n words q in
-      rw (← p.1) (inside_of y a n b v is l (rw (← p.0) at e))
+      let w = within_parts b a n l in
+      rw (← p.1) (record { word = a; bounds = b; is = some_marked v (Data a b) (sym (rw (← p.0) at e) ∙ is); from = w.0; upto = w.1 })
 
   -- where what y points at isn't sensitive, y is plain, and nothing is reached through a mark
-  plain_at : (x y n : ℕ) → (sensitive m f y ≡ true → sensitive m f x ≡ true) → sensitive m f x ≡ false → (y' words : ℕ) (v : Mark) → ◌≡◌ {A = Option (ℕ × ℕ)} (Some (y, n)) (Some (y', words)) → value f y' ≡ Marked v → Inside v words
+  plain_at : (x y n : ℕ) → (sensitive m f y ≡ true → sensitive m f x ≡ true) → sensitive m f x ≡ false → Reaches (Some (y, n))
   plain_at x y n k t y' words v q e =
       let p = some_pair_parts y y' n words q in
-      let e' = rw (← p.0) at e in
-      absurd (both_ways _ t (k (fair.typed y v (value_there f y v e'))))
+      absurd (both_ways _ t (k (fair.typed y v (value_there f y v (rw (← p.0) at e)))))
 
-  gives_inside : {i : Instruction} {e : Event} {x : ℕ} {u : Value} → Gives m s f rest i e x u → instruction m f ≡ Some i → (y words : ℕ) (v : Mark) → through m f i ≡ Some (y, words) → value f y ≡ Marked v → Inside v words
+  gives_inside : {i : Instruction} {e : Event} {x : ℕ} {u : Value} → Gives m s f rest i e x u → instruction m f ≡ Some i → Reaches (through m f i)
   gives_inside (field x y k w b t is l) ins = inside_at y w (size m f y) b is l
   gives_inside (field_plain x y k t) ins = plain_at y y (size m f y) (λ z. z) t
   gives_inside (loaded x y a n b t is l) ins = inside_at y a 1 b is l
   gives_inside (loaded_plain x y n t) ins = plain_at x y 1 (through_load m f x y ins) t
   gives_inside p ins = λ y words v q e. absurd (cc)
 
-  writes_inside : {i : Instruction} {act : Act} → Writes m s f rest i act → instruction m f ≡ Some i → (y words : ℕ) (v : Mark) → through m f i ≡ Some (y, words) → value f y ≡ Marked v → Inside v words
+  writes_inside : {i : Instruction} {act : Act} → Writes m s f rest i act → instruction m f ≡ Some i → Reaches (through m f i)
   writes_inside (put x y a v b t x_is y_is l) ins = inside_at y a 1 b y_is l
   writes_inside (dropped x y a n b t x_is y_is l) ins = inside_at y a 1 b y_is l
   writes_inside (written x y t) ins = plain_at x y 1 (through_store m f x y ins) t
@@ -89,7 +88,7 @@ module _ (m : Module) (h : List Made) (s : Sight) (f : Frame) (rest : List Frame
   enters_none (called g) r q = cc
   enters_none (called_through x g is) r q = cc
 
-  form_inside : {i : Instruction} {e : Event} {l : Left} → Form m s f rest i e l → instruction m f ≡ Some i → (y words : ℕ) (v : Mark) → through m f i ≡ Some (y, words) → value f y ≡ Marked v → Inside v words
+  form_inside : {i : Instruction} {e : Event} {l : Left} → Form m s f rest i e l → instruction m f ≡ Some i → Reaches (through m f i)
   form_inside (gave x u p is) ins = gives_inside p ins
   form_inside (allocated x y i_is nonzero fits q is) ins = λ y' words v t e. let z = rw i_is at t in absurd (cc)
   form_inside (went p n q is) ins = λ y words v t e. absurd (next_none n (y, words) t)
@@ -103,14 +102,10 @@ newest_fair m h s e s' fair t = before_frame m h s t.frame t.others (made s e s'
 pub entered_step : (m : Module) (h : List Made) (s s' : Sight) (e : Event) → Fair m h s → Step m s (Ok e) s' → (g : ℕ) → e ≡ event CalledThrough g → TookBy m h g
 entered_step m h s s' e fair p g q =
     let t = turned m s e s' p in
-    through_known m h s t.frame t.others (newest_fair m h s e s' fair t) (form_turn m s e s' t) g q
+    through_known m h s t.frame t.others (newest_fair m h s e s' fair t) (form_turn t) g q
 
 pub reached_step : (m : Module) (h : List Made) (s s' : Sight) (e : Event) → Fair m h s → Step m s (Ok e) s' → (f : Frame) (i : Instruction) (y words : ℕ) (v : Mark) → Did m (made s e s') f i → through m f i ≡ Some (y, words) → value f y ≡ Marked v → Inside v words
 reached_step m h s s' e fair p f i y words v did q is =
     let t = turned m s e s' p in
-    let same_frame : t.frame ≡ f = same_Some t.frame f (sym (ap newest t.stack_is) ∙ did.frame) in
-    let ins : instruction m t.frame ≡ Some i = ap (λ (g : Frame). instruction m g) same_frame ∙ did.instruction_is in
-    let same_instr : t.instr ≡ i = same_Some t.instr i (sym t.instruction_is ∙ ins) in
-    form_inside m h s t.frame t.others (newest_fair m h s e s' fair t) (form_turn m s e s' t) t.instruction_is y words v
-    (subst (λ (g : Frame). through m g t.instr ≡ Some (y, words)) (sym same_frame) (subst (λ (j : Instruction). through m f j ≡ Some (y, words)) (sym same_instr) q))
-    (ap (λ (g : Frame). value g y) same_frame ∙ is)
+    let same = turn_is t did in
+    form_inside m h s t.frame t.others (newest_fair m h s e s' fair t) (form_turn t) t.instruction_is y words v (rw (same.0, same.1) at q) (rw (same.0) at is)

@@ -1,7 +1,8 @@
 -- Sequences of calls, taken apart into made steps and what changes nothing of a run.
-use Rattle.std.specs.Prelude.{◌≡◌, ℕ, Bool, false, ◌==◌, List, [], ◌∷◌, ◌++◌, length, Some, None, Ok, Err, Option, Result}
+use Rattle.std.specs.Prelude.{◌≡◌, ℕ, ◌==◌, List, [], ◌∷◌, ◌++◌, length, Some, None, Ok, Err, Option, Result}
 use Rattle.std.proofs.Common.{refl, ap, sym, subst, ◌∙◌}
 use Rattle.std.proofs.lemmas.Bool.{cond_both}
+use Rattle.std.proofs.lemmas.Option.{same_Some}
 use Rattle.content.specs.declared.instruction.Instruction.{Instruction}
 use Rattle.module.specs.Modules.{said}
 use Rattle.module.specs.declared.module.Module.{Module}
@@ -21,7 +22,8 @@ use Rattle.machine.specs.Goes.{Made, made, Makes, Ends, Go}
 use Rattle.machine.specs.Goes as goes
 use Rattle.integrity.specs.Calls.{Calls, made_by, went_by}
 use Rattle.integrity.specs.Calls as calls
-use Rattle.integrity.proofs.Forms.{Outcome, stopped, done, outcome}
+use Rattle.integrity.specs.Histories.{newest, Did}
+use Rattle.integrity.proofs.Forms.{Outcome, stopped, done, outcome, Form, formed}
 
 -- what the panel, a refused step and a stop leave of a run
 pub record Quiet (s s' : Sight) : Type 0 where
@@ -89,6 +91,19 @@ module _ (m : Module) (s : Sight) where
 
 pub turned : (m : Module) (s : Sight) (e : Event) (s' : Sight) → Step m s (Ok e) s' → Turn m s e s'
 turned m s e s' p = turned_of m s e s' s.state.stack refl p
+
+-- what a made step did is its turn's
+pub did_turn : {m : Module} {s : Sight} {e : Event} {s' : Sight} (t : Turn m s e s') → Did m (made s e s') t.frame t.instr
+did_turn t = record { frame = ap newest t.stack_is; instruction_is = t.instruction_is }
+
+-- and nothing else
+pub turn_is : {m : Module} {s : Sight} {e : Event} {s' : Sight} {f : Frame} {i : Instruction} (t : Turn m s e s') → Did m (made s e s') f i → (f ≡ t.frame) × (i ≡ t.instr)
+turn_is {m} {f = f} {i = i} t did =
+    let same : f ≡ t.frame = same_Some f t.frame (sym did.frame ∙ ap newest t.stack_is) in
+    (same, same_Some i t.instr (sym did.instruction_is ∙ ap (instruction m) same ∙ t.instruction_is))
+
+pub form_turn : {m : Module} {s : Sight} {e : Event} {s' : Sight} (t : Turn m s e s') → Form m s t.frame t.others t.instr e (make m s t.frame t.others t.instr)
+form_turn {m} {s} {e} t = formed m s t.frame t.others t.instr e t.answer
 
 -- a step that isn't made is quiet
 pub not_made : (m : Module) (s : Sight) (why : Refusal) (s' : Sight) → Step m s (Err why) s' → Quiet s s'

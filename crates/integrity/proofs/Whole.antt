@@ -1,8 +1,6 @@
 -- The integrity theorem, from what each made step keeps and tells.
-use Rattle.std.specs.Prelude.{◌≡◌, ℕ, ◌<◌, ◌≤◌, List, [], ◌∷◌, ◌++◌, length, take, Some, None, Ok}
-use Rattle.std.specs.List.{slice_get}
+use Rattle.std.specs.Prelude.{◌≡◌, ℕ, List, [], ◌∷◌, ◌++◌, Some, None, Ok}
 use Rattle.content.specs.declared.instruction.Instruction.{Instruction}
-use Rattle.module.specs.Modules.{said}
 use Rattle.module.specs.declared.module.Module.{Module}
 use Rattle.values.specs.declared.marked.Marked.{Marked as Mark}
 use Rattle.machine.specs.declared.value.Value.TheVariants.{Marked}
@@ -14,24 +12,23 @@ use Rattle.machine.specs.Frames.{value}
 use Rattle.machine.specs.Machine.{Sight, Step}
 use Rattle.machine.specs.Goes.{Made, made}
 use Rattle.integrity.specs.Calls.{Calls}
-use Rattle.integrity.specs.Histories.{Did, TookBy, Name, Object, through}
-use Rattle.integrity.specs.Integrity.{Begun, Inside, Sound, Alike, Integrity}
-use Rattle.integrity.proofs.Along.{along_all}
-use Rattle.integrity.proofs.Fair.{Ending, Fair, fair_begin, fair_quiet, fair_locals}
+use Rattle.integrity.specs.Histories.{Did, TookBy, through}
+use Rattle.integrity.specs.Integrity.{Begun, Inside, Sound, Integrity}
+use Rattle.integrity.proofs.Along.{along_all, held_is}
+use Rattle.integrity.proofs.Fair.{Fair, fair_begin, fair_quiet}
 use Rattle.integrity.proofs.FairStep.{fair_step}
-use Rattle.integrity.proofs.Held.{held_is}
 use Rattle.integrity.proofs.Objects.{Laid, laid_begin, laid_quiet, laid_step, apart_of, inside_of}
 use Rattle.integrity.proofs.Placed.{Placed, placed_begin, placed_quiet, placed_step, named_of}
 use Rattle.integrity.proofs.Reached.{entered_step, reached_step}
-use Rattle.integrity.proofs.Runs.{Quiet, Runs, runs_of}
-use Rattle.integrity.proofs.Twice.{alike_of}
+use Rattle.integrity.proofs.Runs.{Quiet, runs_of}
+use Rattle.integrity.proofs.AlikeRuns.{alike_of}
 
 module _ (m : Module) where
   -- all that is kept along a history
   record Keeps (h : List Made) (s : Sight) : Type 0 where
     fair : Fair m h s
     laid : Laid m h s
-    placed : Placed m h s
+    placed : Placed m s
 
   -- what is told of a made step, with the history before it
   record Tells (h : List Made) (d : Made) : Type 0 where
@@ -42,7 +39,7 @@ module _ (m : Module) where
   begins s b = record { fair = fair_begin m s b; laid = laid_begin b; placed = placed_begin m s b }
 
   calm : (h : List Made) (s s' : Sight) → Keeps h s → Quiet s s' → Keeps h s'
-  calm h s s' k q = record { fair = fair_quiet m h s s' k.fair q; laid = laid_quiet k.laid q; placed = placed_quiet m h s s' q k.placed }
+  calm h s s' k q = record { fair = fair_quiet m h s s' k.fair q; laid = laid_quiet k.laid q; placed = placed_quiet m s s' q k.placed }
 
   keeps : (h : List Made) (s : Sight) (e : Event) (s' : Sight) → Keeps h s → Step m s (Ok e) s' → Keeps (h ++ made s e s' ∷ []) s'
   keeps h s e s' k p =
@@ -61,13 +58,13 @@ module _ (m : Module) where
       let k : Keeps h s' = whole.0 in
       record {
         entered = λ n g d at. (whole.1 n d at).entered g;
-        locals = fair_locals m h s' k.fair;
+        locals = λ n x f v at. (k.fair.frames n f at).known x v;
         held = k.fair.held;
         reached = λ n y words d f i v at. (whole.1 n d at).reached f i y words v;
         apart = apart_of k.laid;
         inside = inside_of k.laid;
         named = named_of m h;
-        placed = k.placed.frames;
+        placed = k.placed;
         left = held_is m (λ _. None) b.clear (runs_of m c);
       }
 

@@ -1,11 +1,10 @@
 -- What is said of a history, the list of its made steps, the oldest first.
-use Rattle.std.specs.Prelude.{◌≡◌, ℕ, ◌+◌, ◌*◌, ◌<◌, Bool, cond, List, [], ◌∷◌, length, map, Some, None, Option}
+use Rattle.std.specs.Prelude.{◌≡◌, ℕ, ◌+◌, ◌*◌, ◌<◌, cond, List, [], ◌∷◌, length, Some, None, Option}
 use Rattle.std.specs.List.{slice_get}
 use Rattle.content.specs.declared.instruction.Instruction.{Instruction}
 use Rattle.content.specs.declared.instruction.Instruction.TheVariants as op
 use Rattle.module.specs.Modules.{said}
 use Rattle.module.specs.declared.module.Module.{Module}
-use Rattle.values.specs.declared.bounds.Bounds.{Bounds}
 use Rattle.values.specs.declared.marked.Marked.{Marked as Mark}
 use Rattle.values.specs.declared.marked.Marked.TheVariants.{Code, Data}
 use Rattle.machine.specs.declared.frame.Frame.{Frame}
@@ -13,7 +12,7 @@ use Rattle.machine.specs.declared.event.Event.{Event}
 use Rattle.machine.specs.Values.{word}
 use Rattle.machine.specs.Events.{decides, enters}
 use Rattle.machine.specs.Frames.{value}
-use Rattle.machine.specs.Machine.{Entries, State, instruction, size, start_of}
+use Rattle.machine.specs.Machine.{Entries, instruction, size, start_of}
 use Rattle.machine.specs.Goes.{Made}
 
 -- the newest of the frames

@@ -6,13 +6,13 @@ use Rattle.module.specs.Modules.{said}
 use Rattle.module.specs.declared.module.Module.{Module}
 use Rattle.values.specs.declared.bounds.Bounds.{Bounds}
 use Rattle.values.specs.declared.marked.Marked.{Marked as Mark}
-use Rattle.values.specs.declared.marked.Marked.TheVariants.{Code, Data}
+use Rattle.values.specs.declared.marked.Marked.TheVariants.{Data}
 use Rattle.machine.specs.declared.value.Value.TheVariants.{Marked}
 use Rattle.machine.specs.declared.frame.Frame.{Frame}
 use Rattle.machine.specs.declared.event.EventKind.TheVariants.{CalledThrough}
 use Rattle.machine.specs.Events.{event}
 use Rattle.machine.specs.Frames.{value}
-use Rattle.machine.specs.Machine.{Entries, State, Sight, beginning, instruction}
+use Rattle.machine.specs.Machine.{Sight, beginning, instruction}
 use Rattle.machine.specs.Goes.{Made}
 use Rattle.integrity.specs.Calls.{Calls}
 use Rattle.integrity.specs.Histories.{Did, TookBy, Name, Object, Known, through, decisions, entered_by, Agree, held_after}

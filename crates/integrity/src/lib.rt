@@ -1,4 +1,2 @@
 //! The integrity theorem over all sequences of calls.
 #![tactic(auto)]
-
-pub mod beginning;

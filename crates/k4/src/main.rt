@@ -21,7 +21,7 @@ fn replay(rt: &HostRuntime) -> anyhow::Result<()> {
     let heap = rt.alloc();
     let mut script = Vec::new(heap);
     rt.stdin().read_to_end(&mut script)?;
-    let mut desk = Desk::new();
+    let mut desk = Desk::new(heap);
     for (number, line) in (1u64..).zip(Lines::of(&script)) {
         let told = desk.reply(heap, number, line)?;
         rt.print(told)?;

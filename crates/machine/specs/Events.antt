@@ -1,5 +1,5 @@
 -- The events that are told more of: which are decisions, and which enter a function.
-use Rattle.std.specs.Prelude.{ℕ, Bool, true, false, cond, Some, None, Option}
+use Rattle.std.specs.Prelude.{ℕ, Bool, true, false}
 use Rattle.machine.specs.declared.event.EventKind.{EventKind}
 use Rattle.machine.specs.declared.event.EventKind.TheVariants.{Other, Called, CalledThrough, Returned, Ended, Branched, Moved, Allocated}
 use Rattle.machine.specs.declared.event.Event.{Event}

@@ -28,6 +28,9 @@ impl Frame {
     pub fn local(&self, x: u32) -> Value
         ensures { result ≡ value self.now x }
     {
-        self.locals.get(x as usize).copied().unwrap_or(Value::Plain(0))
+        self.locals
+            .get(x as usize)
+            .copied()
+            .unwrap_or(Value::Plain(0))
     }
 }

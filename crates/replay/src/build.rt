@@ -10,10 +10,10 @@ use std::alloc::{AllocError, Global};
 use values::marked::Marked;
 use window::Window;
 
-pub(crate) type Flat = Either<ArrayStore<Marked>, HashStore<Marked>>;
+pub type Flat = Either<ArrayStore<Marked>, HashStore<Marked>>;
 
 // Either make, behind a window or not.
-pub(crate) type Loose = Either<Flat, Window<Flat>>;
+pub type Loose = Either<Flat, Window<Flat>>;
 
 fn flat(heap: Global, make: Make, slots: u32) -> Result<Flat, AllocError>
     ensures { IfOk result (FlatBuilt make slots) }

@@ -5,7 +5,7 @@ use stores::store::{NotTaken, Store};
 
 // An enum and no boxed `dyn Store`: no function here may make a dyn value and hand it out.
 #[derive(Drop)]
-pub(crate) enum Either<A, B> {
+pub enum Either<A, B> {
     First(A),
     Second(B),
 }

@@ -3,7 +3,7 @@
 
 pub mod answer;
 mod ask;
-mod build;
-mod either;
+pub mod build;
+pub mod either;
 pub mod reply;
 pub mod session;

@@ -21,6 +21,14 @@ impl Session {
         Session { store: None }
     }
 
+    // Gives away the loose store; none stands then.
+    pub fn take(&mut self) -> Option<Loose>
+        ensures taken { result ≡ self.old.store }
+        ensures left { self.new.store ≡ None }
+    {
+        self.store.take()
+    }
+
     // Fails only for want of memory, and then changes nothing.
     pub(crate) fn obey(&mut self, heap: Global, command: Command) -> Result<Answer, AllocError>
         ensures { Obeyed self.old.store command result self.new.store }

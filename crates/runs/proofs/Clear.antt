@@ -1,6 +1,6 @@
 -- One address more is dropped.
-use Rattle.std.specs.Prelude.{◌≡◌, ◌≢◌, ℕ, ◌+◌, ◌<◌, ◌≤◌, true, is_some, refl}
-use Rattle.std.proofs.Common.{arith, ap, sym, subst, ◌∙◌, ⊎_elim}
+use Rattle.std.specs.Prelude.{ℕ, ◌+◌, is_some, refl}
+use Rattle.std.proofs.Common.{arith, ap, sym, ◌∙◌, ⊎_elim}
 use Rattle.std.proofs.lemmas.Bool.{cases_eq}
 use Rattle.stores.specs.Meaning.{Dropped}
 use Rattle.machine.specs.Machine.{Entries, Taken}

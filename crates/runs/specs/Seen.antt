@@ -1,8 +1,7 @@
 -- A run as the machine's meaning sees it, and what part of a step does with it.
-use Rattle.std.specs.Prelude.{◌≡◌, ℕ, ◌<◌, Bool, false, List, length, drop, Ok, Err, Option, Result}
+use Rattle.std.specs.Prelude.{◌≡◌, ℕ, ◌<◌, false, List, length, drop, Ok, Err, Result}
 use Rattle.module.specs.Modules.{said}
 use Rattle.module.specs.declared.module.Module.{Module}
-use Rattle.values.specs.declared.marked.Marked.{Marked as Mark}
 use Rattle.machine.specs.declared.frame.Frame.{Frame}
 use Rattle.machine.specs.declared.event.Event.{Event}
 use Rattle.machine.specs.declared.refusal.Stop.{Stop}

@@ -31,6 +31,9 @@ impl<S> Run<S> {
     pub(crate) fn size(&self, x: u32) -> u32
         ensures { result ≡ size self.now.module (newest self.now.stack) x }
     {
-        self.module.local(self.stack.function(), x).size.unwrap_or(0)
+        self.module
+            .local(self.stack.function(), x)
+            .size
+            .unwrap_or(0)
     }
 }

@@ -19,15 +19,26 @@ impl<S: Store<Entry = Marked>> Run<S> {
     {
         if self.word(x) == 0 {
             self.pass();
-            Event { kind: EventKind::Branched, word: 0 }
+            Event {
+                kind: EventKind::Branched,
+                word: 0,
+            }
         } else {
             self.go_to(to);
-            Event { kind: EventKind::Branched, word: 1 }
+            Event {
+                kind: EventKind::Branched,
+                word: 1,
+            }
         }
     }
 
     // A function is entered, if a frame more may stand.
-    pub(crate) fn enter(&mut self, memory: &[u32], kind: EventKind, function: u32) -> Result<Event, Stop>
+    pub(crate) fn enter(
+        &mut self,
+        memory: &[u32],
+        kind: EventKind,
+        function: u32,
+    ) -> Result<Event, Stop>
         requires going { Going S.entry S.taken self.old memory.now }
         ensures { Tried S.entry S.taken S.kept (λ m s f rest. enter m s f rest kind function) self.old memory.now result self.new memory.now }
     {
@@ -36,7 +47,10 @@ impl<S: Store<Entry = Marked>> Run<S> {
         }
         self.pass();
         self.stack.enter(function);
-        Ok(Event { kind, word: function })
+        Ok(Event {
+            kind,
+            word: function,
+        })
     }
 
     pub(crate) fn enter_through(&mut self, memory: &[u32], x: u32) -> Result<Event, Stop>

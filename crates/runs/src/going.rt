@@ -12,6 +12,7 @@ use values::marked::Marked;
 
 impl<S: Store<Entry = Marked>> Run<S> {
     // Writes the events from the list's first place on, and leaves the places behind. Refused as a step is, also with an empty list.
+    #[tactic(auto, using(crate::proofs::Progress::at_start, crate::proofs::Progress::went_full, crate::proofs::Progress::went_stopped, crate::proofs::Progress::ready_still))]
     pub fn go(&mut self, memory: &mut [u32], events: &mut [Event]) -> Result<Gone, NotReady>
         ensures module { self.new.module ≡ self.old.module }
         ensures kept { S.kept self.old.store self.new.store }

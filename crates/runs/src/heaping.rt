@@ -26,6 +26,9 @@ impl<S: Store<Entry = Marked>> Run<S> {
         let high = high as u32;
         self.give(x, Value::data(low, low, high));
         self.heap = high;
-        Ok(Event { kind: EventKind::Allocated, word: n })
+        Ok(Event {
+            kind: EventKind::Allocated,
+            word: n,
+        })
     }
 }

@@ -52,7 +52,11 @@ impl<S: Store<Entry = Marked>> Run<S> {
         }
     }
 
-    pub(crate) fn perform(&mut self, memory: &mut [u32], instruction: Instruction) -> Result<Event, Stop>
+    pub(crate) fn perform(
+        &mut self,
+        memory: &mut [u32],
+        instruction: Instruction,
+    ) -> Result<Event, Stop>
         requires going { Going S.entry S.taken self.old memory.old }
         ensures { Tried S.entry S.taken S.kept (λ m s f rest. make m s f rest instruction) self.old memory.old result self.new memory.new }
     {

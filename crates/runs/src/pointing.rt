@@ -59,7 +59,10 @@ impl<S: Store<Entry = Marked>> Run<S> {
         if !within(bounds, word, self.size(y)) {
             return Err(Stop::Outside);
         }
-        self.give(x, Value::Marked(Marked::Data(wrapped(word as u64 + k as u64), bounds)));
+        self.give(
+            x,
+            Value::Marked(Marked::Data(wrapped(word as u64 + k as u64), bounds)),
+        );
         Ok(OTHER)
     }
 
@@ -72,8 +75,14 @@ impl<S: Store<Entry = Marked>> Run<S> {
         let by = n as u64 * self.size(x) as u64;
         match self.value(y) {
             Value::Marked(Marked::Data(word, bounds)) => {
-                self.give(x, Value::Marked(Marked::Data(wrapped(word as u64 + by), bounds)));
-                Event { kind: EventKind::Moved, word: n }
+                self.give(
+                    x,
+                    Value::Marked(Marked::Data(wrapped(word as u64 + by), bounds)),
+                );
+                Event {
+                    kind: EventKind::Moved,
+                    word: n,
+                }
             }
             Value::Plain(word) | Value::Marked(Marked::Code(word)) => {
                 self.give(x, Value::Plain(wrapped(word as u64 + by)));

@@ -38,7 +38,10 @@ impl<S: Store<Entry = Marked>> Run<S> {
         requires going { Going S.entry S.taken self.old memory.now }
         ensures { Tried S.entry S.taken S.kept (λ m s f rest. load_plain m s f rest x (word (value f y))) self.old memory.now result self.new memory.now }
     {
-        let word = memory.get(self.word(y) as usize).copied().ok_or(Stop::Address)?;
+        let word = memory
+            .get(self.word(y) as usize)
+            .copied()
+            .ok_or(Stop::Address)?;
         self.give(x, Value::Plain(word));
         Ok(OTHER)
     }

@@ -10,4 +10,4 @@ returns-in_ok-sensitive_types-in-Sensitive c =
     let d = c.args.self.now in
     let text = c.in_ok-sensitive_types-in-Sensitive.field-0 in
     subst (λ (l : ImageLine). Done (asked l) d (Ok (Sensitive text)) d) (sym c.in-Sensitive.is)
-    (record { session = refl; answer = (record { numbers = text; tells = refl; listed = c.in_ok-sensitive_types-in-Sensitive.ensures }, refl) })
+    (record { session = refl; board = refl; answer = (record { numbers = text; tells = refl; listed = c.in_ok-sensitive_types-in-Sensitive.ensures }, refl) })

@@ -1,0 +1,4 @@
+pub mod Listings
+pub mod Memories
+pub mod Runs
+pub mod Shown
