@@ -28,7 +28,7 @@ fn names(module: &Module) -> Result<(), Refusal> {
         names_range(function.first, function.count, module.code.len())
             && names_range(function.first_local, function.locals, module.locals.len())
     })?;
-    each_instruction(6, module, |function, instruction| named(module, function, instruction))
+    each_instruction(6, module, |function, _, instruction| named(module, function, instruction))
 }
 
 /// Every type is what its use asks for; refusal 7.
@@ -38,11 +38,14 @@ fn types(module: &Module) -> Result<(), Refusal> {
     each(7, FIELDS, &module.fields, atomic)?;
     each(7, GLOBALS, &module.globals, |global| module.size(global.typ).is_some())?;
     each(7, LOCALS, &module.locals, atomic)?;
-    each(7, FUNCTIONS, &module.functions, |function| {
-        let last = module.code_of(function).last();
-        matches!(last, Some(Instruction::Jump { .. } | Instruction::Return))
-    })?;
-    each_instruction(7, module, |function, instruction| typed(module, function, instruction))
+    each_instruction(7, module, |function, place, instruction| {
+        (place + 1 < function.count || ends(instruction)) && typed(module, function, instruction)
+    })
+}
+
+/// Whether a function may end with it.
+pub fn ends(instruction: Instruction) -> bool {
+    matches!(instruction, Instruction::Jump { .. } | Instruction::Return)
 }
 
 fn each<R>(
@@ -60,12 +63,12 @@ fn each<R>(
 fn each_instruction(
     number: u32,
     module: &Module,
-    good: impl Fn(&Function, Instruction) -> bool,
+    good: impl Fn(&Function, u32, Instruction) -> bool,
 ) -> Result<(), Refusal> {
     for function in &module.functions {
-        for (place, instruction) in module.code_of(function).iter().enumerate() {
-            if !good(function, *instruction) {
-                return Err(Refusal::of_record(number, CODE, function.first as usize + place));
+        for (place, instruction) in (0..).zip(module.code_of(function)) {
+            if !good(function, place, *instruction) {
+                return Err(Refusal::of_record(number, CODE, (function.first + place) as usize));
             }
         }
     }

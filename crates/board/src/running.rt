@@ -4,18 +4,12 @@ ghost use Rattle.board.specs.Runs.{Begins, Goes, Steps, Went, told_status};
 
 use crate::board::Board;
 use crate::report::Report;
-use machine::event::{Event, EventKind};
+use machine::event::{Event, OTHER};
 use module::module::Module;
 use runs::run::Run;
 use std::alloc::{AllocError, Global};
 use stores::store::Store;
 use values::marked::Marked;
-
-// What a list of events holds before a go.
-const OTHER: Event = Event {
-    kind: EventKind::Other,
-    word: 0,
-};
 
 // Of the list, only the events of the steps that were made are told.
 fn go_on<S: Store<Entry = Marked>>(run: &mut Run<S>, memory: &mut [u32], room: Vec<Event>) -> Report

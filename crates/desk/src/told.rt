@@ -11,7 +11,7 @@ use writing::TooShort;
 
 #[derive(Drop)]
 pub enum Told {
-    // What a line gets that is about neither modules nor runs, or that no run could be asked by.
+    // What a line about stores gets, and a malformed line about runs.
     Reply(Reply),
     // What a line about runs gets.
     Run(Report),

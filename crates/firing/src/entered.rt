@@ -35,11 +35,3 @@ impl fmt::Display for Entered {
         }
     }
 }
-
-// Branches, moves of data and allocations are the decisions.
-pub(crate) fn decides(event: &Event) -> bool {
-    matches!(
-        event.kind,
-        EventKind::Branched | EventKind::Moved | EventKind::Allocated
-    )
-}

@@ -1,7 +1,7 @@
 // A firing goes on, beside a panel.
 use crate::panel::Panel;
 use anyhow::anyhow;
-use machine::event::{Event, EventKind};
+use machine::event::{Event, OTHER};
 use machine::status::Status;
 use module::module::Module;
 use runs::run::Run;
@@ -17,11 +17,6 @@ const BENT_BEFORE: usize = 2;
 
 // More slices, and more steps, than a firing has.
 const MOST: usize = 1000;
-
-const NO_EVENT: Event = Event {
-    kind: EventKind::Other,
-    word: 0,
-};
 
 // A run of the kiln's module.
 #[derive(Drop)]
@@ -47,7 +42,7 @@ impl<S: Store<Entry = Marked> + Drop> Firing<S> {
 
     // To its end in slices, with one write of the panel between two of them.
     pub(crate) fn go_in_slices(&mut self, rt: &HostRuntime, panel: Panel) -> anyhow::Result<()> {
-        let mut slice = [NO_EVENT; SLICE];
+        let mut slice = [OTHER; SLICE];
         for k in 0..MOST {
             if !self.is_running() {
                 break;
@@ -74,7 +69,7 @@ impl<S: Store<Entry = Marked> + Drop> Firing<S> {
             }
             panel.write(&mut self.memory);
             let event = self.run.step(&mut self.memory).map_err(|refusal| anyhow!(
-                "a step is refused, {}",
+                "a step isn't made, {}",
                 refusal.number()
             ))?;
             self.events.push(event)?;

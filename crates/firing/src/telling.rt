@@ -1,5 +1,5 @@
 // What took place in a firing.
-use crate::entered::{Entered, decides};
+use crate::entered::Entered;
 use crate::firing::Firing;
 use crate::segment::{Function, Segment, TABLE};
 use anyhow::{Context, anyhow};
@@ -15,7 +15,11 @@ impl<S: Store<Entry = Marked> + Drop> Firing<S> {
     }
 
     pub(crate) fn decisions(&self, heap: Global) -> Result<Vec<Event>, AllocError> {
-        self.events.iter().copied().filter(decides).collect(heap)
+        self.events
+            .iter()
+            .copied()
+            .filter(|event| event.kind.decides())
+            .collect(heap)
     }
 
     // The function whose number the memory has at an address.

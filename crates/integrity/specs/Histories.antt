@@ -110,11 +110,11 @@ Agree [] ys = Unit {0}
 Agree (x ∷ xs) [] = Unit {0}
 Agree (x ∷ xs) (y ∷ ys) = (x ≡ y) × Agree xs ys
 
--- what the store holds below the memory size after a history that held e before
+-- what the store holds after a history that began where it held e
 abbrev pub held_from : Entries → List Made → Entries
 held_from e [] = e
 held_from e (d ∷ h) = held_from d.left h
 
--- nothing is held as a run begins
+-- below the memory size, where nothing is held as a run begins
 abbrev pub held_after : List Made → Entries
 held_after h = held_from (λ _. None) h

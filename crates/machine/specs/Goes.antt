@@ -11,7 +11,7 @@ use Rattle.machine.specs.declared.gone.Came.TheVariants.{Full, Ended, Stopped}
 use Rattle.machine.specs.declared.gone.Gone.{Gone}
 use Rattle.machine.specs.Machine.{Entries, State, Sight, Step}
 
--- a made step: the state that it was made in, its event, and what the store held then
+-- a made step: the state that it was made in, its event, and what the store holds after it
 pub record Made : Type 0 where
   pub found : State
   pub event : Event

@@ -1,5 +1,6 @@
 // What a made step tells.
 ghost use Rattle.std.specs.Prelude.{◌≡◌, Some};
+ghost use Rattle.machine.specs.Events.{decides};
 ghost use Rattle.machine.specs.Numbers.{kind_number, event_text};
 
 use std::fmt;
@@ -30,11 +31,27 @@ impl From<EventKind> for u32 {
     }
 }
 
+impl EventKind {
+    pub fn decides(self) -> bool
+        ensures { result ≡ decides self }
+    {
+        matches!(
+            self,
+            EventKind::Branched | EventKind::Moved | EventKind::Allocated
+        )
+    }
+}
+
 #[derive(Clone, Copy, PartialEq, Eq, Debug)]
 pub struct Event {
     pub kind: EventKind,
     pub word: u32,
 }
+
+pub const OTHER: Event = Event {
+    kind: EventKind::Other,
+    word: 0,
+};
 
 impl fmt::Display for Event {
     ghost output = { λ e. Some (event_text e) };

@@ -25,7 +25,7 @@ module _ {S : Type 0} (entry : S → Entries) (taken : S → Taken) where
   abbrev pub seen : Run S → List ℕ → Sight
   seen r memory = record { state = record { stack = r.stack; heap = r.heap; stopped = r.stopped }; entries = entry r.store; taken = taken r.store; memory = memory }
 
-  -- a frame stands, the run goes on, its place isn't the last number, and the memory has the module's size
+  -- a frame stands, the run goes on, its place is below 1,024, the most instructions that there are, and the memory has the module's size
   pub record Going (r : Run S) (memory : List ℕ) : Type 0 where
     pub stands : 0 < length r.stack
     pub running : r.stopped ≡ false

@@ -26,21 +26,21 @@ fn clear<S: Store<Entry = Marked>>(store: &mut S, n: u32)
 impl<S: Store<Entry = Marked>> Run<S> {
     // Copies the module, takes the store for itself, drops every address below the memory size, and enters function 0.
     #[tactic(auto, using(integrity::proofs::Whole::integral))]
-    pub fn begin(module: &Module, store: S) -> Run<S>
-        ensures module { result.module ≡ «module».now }
-        ensures state { (memory : List ℕ) → (seen S.entry S.taken result memory).state ≡ beginning «module».now }
-        ensures cleared { Cleared (said «module».now).memory (S.entry store) (S.taken store) (S.entry result.store) (S.taken result.store) }
+    pub fn begin(program: &Module, store: S) -> Run<S>
+        ensures module { result.module ≡ program.now }
+        ensures state { (memory : List ℕ) → (seen S.entry S.taken result memory).state ≡ beginning program.now }
+        ensures cleared { Cleared (said program.now).memory (S.entry store) (S.taken store) (S.entry result.store) (S.taken result.store) }
         ensures kept { S.kept store result.store }
-        ensures integrity { (memory : List ℕ) → Integrity «module».now (seen S.entry S.taken result memory) }
+        ensures integrity { (memory : List ℕ) → Integrity program.now (seen S.entry S.taken result memory) }
     {
         let mut store = store;
-        clear(&mut store, module.memory());
+        clear(&mut store, program.memory());
         let mut stack = Stack::new();
         stack.enter(0);
         Run {
-            module: *module,
+            module: *program,
             stack,
-            heap: module.heap(),
+            heap: program.heap(),
             stopped: false,
             store,
         }

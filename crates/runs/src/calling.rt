@@ -1,18 +1,27 @@
-// Calls, returns and branches.
+// Where a run goes on: jumps, branches, calls and returns.
 ghost use Rattle.std.specs.Prelude.{Ok};
 ghost use Rattle.machine.specs.Values.{word};
+ghost use Rattle.machine.specs.Events.{other};
 ghost use Rattle.machine.specs.Frames.{value};
-ghost use Rattle.machine.specs.Machine.{branch, enter, enter_through, leave};
+ghost use Rattle.machine.specs.Machine.{branch, enter, enter_through, goes, leave};
 ghost use Rattle.runs.specs.Seen.{Going, Tried};
 
 use crate::run::Run;
-use machine::event::{Event, EventKind};
+use machine::event::{Event, EventKind, OTHER};
 use machine::refusal::Stop;
 use machine::value::Value;
 use stores::store::Store;
 use values::marked::Marked;
 
 impl<S: Store<Entry = Marked>> Run<S> {
+    pub(crate) fn jump(&mut self, memory: &[u32], to: u32) -> Event
+        requires going { Going S.entry S.taken self.old memory.now }
+        ensures { Tried S.entry S.taken S.kept (λ m s f rest. goes m s f rest other to) self.old memory.now (Ok result) self.new memory.now }
+    {
+        self.go_to(to);
+        OTHER
+    }
+
     pub(crate) fn branch(&mut self, memory: &[u32], x: u32, to: u32) -> Event
         requires going { Going S.entry S.taken self.old memory.now }
         ensures { Tried S.entry S.taken S.kept (λ m s f rest. branch m s f rest (word (value f x)) to) self.old memory.now (Ok result) self.new memory.now }

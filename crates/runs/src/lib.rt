@@ -5,6 +5,7 @@ mod acting;
 mod asking;
 pub mod beginning;
 mod calling;
+mod computing;
 pub mod going;
 mod heaping;
 mod performing;

@@ -1,22 +1,19 @@
-// Addresses: of globals, moved, and of fields.
+// Addresses: of globals, moved, and of fields of records.
 ghost use Rattle.std.specs.Prelude.{◌≡◌, ◌+◌, Ok};
 ghost use Rattle.machine.specs.Frames.{value};
-ghost use Rattle.machine.specs.Values.{word, with_word, within, wrapped};
-ghost use Rattle.machine.specs.Machine.{field, move, size};
+ghost use Rattle.machine.specs.Values.{bounds_of, data_in, word, with_word, within, wrapped};
+ghost use Rattle.content.specs.declared.instruction.Instruction.TheVariants.{Global};
+ghost use Rattle.module.specs.Modules.{said};
+ghost use Rattle.machine.specs.Machine.{field, make, move, size, start_of};
 ghost use Rattle.runs.specs.Seen.{Going, Tried};
 
 use crate::run::Run;
-use machine::event::{Event, EventKind};
+use machine::event::{Event, EventKind, OTHER};
 use machine::refusal::Stop;
 use machine::value::Value;
 use stores::store::Store;
 use values::bounds::Bounds;
 use values::marked::Marked;
-
-pub(crate) const OTHER: Event = Event {
-    kind: EventKind::Other,
-    word: 0,
-};
 
 fn wrapped(n: u64) -> u32
     ensures { result ≡ wrapped n }
@@ -44,6 +41,16 @@ pub(crate) fn within(bounds: Bounds, word: u32, words: u32) -> bool
 }
 
 impl<S: Store<Entry = Marked>> Run<S> {
+    // The address of all of a global.
+    fn global(&self, global: u32) -> Value
+        ensures { result ≡ data_in (bounds_of (start_of (said self.now.module).types (said self.now.module).globals global) (start_of (said self.now.module).types (said self.now.module).globals (global + 1))) (start_of (said self.now.module).types (said self.now.module).globals global) }
+    {
+        match self.module.span(global) {
+            Some(span) => Value::data(span.low, span.low, span.high),
+            None => Value::Plain(self.module.heap()),
+        }
+    }
+
     // The address of field k of the record at y.
     pub(crate) fn field(&mut self, memory: &[u32], x: u32, y: u32, k: u32) -> Result<Event, Stop>
         requires going { Going S.entry S.taken self.old memory.now }
@@ -64,6 +71,14 @@ impl<S: Store<Entry = Marked>> Run<S> {
             Value::Marked(Marked::Data(wrapped(word as u64 + k as u64), bounds)),
         );
         Ok(OTHER)
+    }
+
+    pub(crate) fn point_at(&mut self, memory: &[u32], x: u32, global: u32) -> Event
+        requires going { Going S.entry S.taken self.old memory.now }
+        ensures { Tried S.entry S.taken S.kept (λ m s f rest. make m s f rest (Global x global)) self.old memory.now (Ok result) self.new memory.now }
+    {
+        let v = self.global(global);
+        self.set(memory, x, v)
     }
 
     // y moved by z, counted in what it points at.

@@ -5,9 +5,9 @@ ghost use Rattle.machine.specs.Values.{word};
 ghost use Rattle.machine.specs.Machine.{keep, load, load_plain, load_within, store, store_plain, store_within};
 ghost use Rattle.runs.specs.Seen.{Going, Tried};
 
-use crate::pointing::{OTHER, within};
+use crate::pointing::within;
 use crate::run::Run;
-use machine::event::Event;
+use machine::event::{Event, OTHER};
 use machine::refusal::Stop;
 use machine::value::Value;
 use stores::store::Store;

@@ -2,7 +2,6 @@
 ghost use Rattle.std.specs.Prelude.{◌≡◌, false, IfOk, MatchResult};
 ghost use Rattle.machine.specs.Machine.{Step, instruction, take_turn};
 ghost use Rattle.machine.specs.Goes.{Ready, Unready};
-ghost use Rattle.stack.specs.Stack.{newest};
 ghost use Rattle.runs.specs.Seen.{answer, seen, Tried};
 
 use crate::run::Run;

@@ -17,7 +17,7 @@ const MOST: usize = 16;
 #[derive(Drop)]
 pub struct Stack {
     depth: usize,
-    frames: [Frame; 16],
+    frames: [Frame; MOST],
 }
 
 impl Model for Stack {
@@ -61,7 +61,7 @@ impl Stack {
     {
         Stack {
             depth: 0,
-            frames: [Frame::of(0); 16],
+            frames: [Frame::of(0); MOST],
         }
     }
 

@@ -8,7 +8,7 @@ use crate::image::{Function, Instruction, Module, Type};
 use crate::rules;
 
 /// No part has more instructions.
-const LONGEST_PART: usize = 26;
+const LONGEST_PART: usize = 27;
 /// How often a loaded pointer is gone on with.
 const DEEPEST: u32 = 2;
 
@@ -58,6 +58,9 @@ impl Body<'_> {
         for part in 0..self.parts {
             let left = room - 1 - self.code.len();
             starts.push(self.code.len() as u32);
+            if part == 0 && left >= LONGEST_PART {
+                self.begin_count();
+            }
             match self.aim {
                 _ if left < LONGEST_PART => self.short_part(left),
                 Aim::Bound(number) if part >= first_try => tried |= self.bound(number),
@@ -80,9 +83,13 @@ impl Body<'_> {
     }
 
     fn end(&mut self) {
-        let goes_on = if self.function == 0 { 65 } else { 4 };
+        let goes_on = match self.function {
+            _ if self.code.is_empty() => 1,
+            0 => 75,
+            _ => 4,
+        };
         if self.random.chance(goes_on) {
-            let to = self.random.below(self.parts);
+            let to = if self.random.chance(80) { 0 } else { self.random.below(self.parts) };
             self.code.push(Instruction::Jump { to });
         } else {
             self.code.push(Instruction::Return);
@@ -303,10 +310,14 @@ impl Body<'_> {
 
     fn loop_back(&mut self, part: u32) {
         let (Some(counter), Some(one)) = (self.counter, self.number()) else { return };
+        if part == 0 {
+            return;
+        }
         self.add(Instruction::Set { x: one, n: 1 });
         self.add(Instruction::Subtract { x: counter, y: counter, z: one });
-        let to = self.random.below(part + 1);
+        let to = self.random.between(1, part);
         self.add(Instruction::Branch { x: counter, to });
+        self.begin_count();
     }
 
     fn call(&mut self) {

@@ -137,17 +137,20 @@ impl Body<'_> {
 
     /// 26: as much as the heap has left, none, more, and products beyond 2^32.
     fn end_of_heap(&mut self) -> Option<()> {
-        let (p, to) = self.pointer_to_sized()?;
+        let (mut p, mut to) = self.pointer_to_sized()?;
+        if self.module.size(to) == Some(1) {
+            (p, to) = self.pointer_to_sized()?;
+        }
         let y = self.number()?;
         let size = self.module.size(to)?;
         let left = self.module.memory - self.module.globals_room() as u32;
         let wrap = ((1u64 << 32) / u64::from(size)) as u32;
-        let n = match self.random.below(7) {
+        let n = match self.random.below(6) {
+            _ if size > 1 && self.random.chance(50) => wrap.wrapping_add(self.random.below(3)),
             0 => 0,
             1 | 2 => left / size,
             3 => left / size + 1,
             4 => self.random.word(),
-            _ if size > 1 => wrap.wrapping_add(self.random.below(3)),
             _ => left,
         };
         self.add(Instruction::Set { x: y, n });

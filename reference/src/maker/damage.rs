@@ -3,7 +3,7 @@
 use super::random::Random;
 use super::{Lines, module};
 use crate::image::{
-    CODE, FIELDS, FRONT, FUNCTIONS, GLOBALS, Instruction, LOCALS, Module, TYPES, WORDS_OF_A_RECORD,
+    CODE, FIELDS, FRONT, FUNCTIONS, GLOBALS, LOCALS, Module, TYPES, WORDS_OF_A_RECORD,
 };
 use crate::script::hex;
 
@@ -39,7 +39,7 @@ pub fn make(random: &mut Random, lines: &mut Lines) {
 }
 
 fn damage(random: &mut Random, module: &Module, bytes: &mut Vec<u8>) {
-    match random.below(28) {
+    match random.below(36) {
         0 => bytes.truncate(random.below(62) as usize),
         1 => set(bytes, 0, random.pick(&[0, 2, 257, u32::MAX])),
         2 => {
@@ -86,7 +86,8 @@ fn damage(random: &mut Random, module: &Module, bytes: &mut Vec<u8>) {
         12..=15 => operand(random, module, bytes),
         16 => last_instruction(random, module, bytes),
         17 | 18 => limit(random, module, bytes),
-        19 => another_type(random, module, bytes),
+        23..=27 => any_instruction(random, module, bytes),
+        19..=22 => another_type(random, module, bytes),
         _ => {
             let list = random.below(6) as usize;
             if count(module, list) > 0 {
@@ -132,21 +133,28 @@ fn limit(random: &mut Random, module: &Module, bytes: &mut [u8]) {
     }
 }
 
-/// Another local, or another field, for an instruction.
+/// Another local, or another field, for an instruction; every op as often as any other.
 fn operand(random: &mut Random, module: &Module, bytes: &mut [u8]) {
-    let mut place = record(random, module, CODE);
-    if random.chance(30) {
-        let steps = (0..module.code.len())
-            .filter(|k| matches!(module.code[*k], Instruction::Field { .. }))
-            .collect::<Vec<_>>();
-        if let Some(step) = random.some(&steps) {
-            place = place_of(module, CODE, step);
-            set(bytes, place + 12, random.pick(&[1, 2, 3, 3, 4]));
-            return;
-        }
+    let op = random.below(16);
+    let places: Vec<usize> = (0..module.code.len())
+        .map(|k| place_of(module, CODE, k))
+        .filter(|place| get(bytes, *place) == op)
+        .collect();
+    if let Some(place) = random.some(&places) {
+        let k = if op == 11 && random.chance(50) { 3 } else { random.between(1, 3) as usize };
+        set(bytes, place + 4 * k, random.below(8));
     }
-    let k = random.between(1, 3) as usize;
-    set(bytes, place + 4 * k, random.below(8));
+}
+
+/// Any op with small numbers behind it, in the place of an instruction.
+fn any_instruction(random: &mut Random, module: &Module, bytes: &mut [u8]) {
+    let place = record(random, module, CODE);
+    let op = random.below(17);
+    let used = [2, 3, 3, 3, 2, 1, 2, 2, 2, 2, 3, 3, 2, 2, 1, 1, 0][op as usize];
+    set(bytes, place, op);
+    for k in 1..4 {
+        set(bytes, place + 4 * k, if k <= used { random.below(8) } else { 0 });
+    }
 }
 
 /// Another instruction of a function in the place of its last.

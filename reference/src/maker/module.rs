@@ -3,7 +3,7 @@
 use super::body::Body;
 use super::random::Random;
 use super::types;
-use crate::image::{Function, Instruction, Module, Type};
+use crate::image::{Function, Module, Type};
 use crate::rules;
 
 /// What a module is made to come to.
@@ -124,13 +124,14 @@ fn palette(random: &mut Random, module: &Module) -> Vec<u32> {
 /// Gives every function its code; says whether the try at a bound is in, if one is aimed at.
 fn draw_code(random: &mut Random, module: &mut Module, aim: Aim) -> bool {
     let many = module.functions.len() as u32;
-    let room = 1_024 / many;
+    let room_of = |function| if function == 0 { 512 } else { 512 / (many - 1) };
     let tried_in = if random.chance(75) { 0 } else { random.below(many) };
     let mut tried = true;
     module.code.clear();
     for function in 0..many {
         let of_this = if function == tried_in { aim } else { without_bound(aim) };
-        let (code, has_tried) = Body::draw(random, module, function, room as usize, of_this);
+        let (code, has_tried) =
+            Body::draw(random, module, function, room_of(function) as usize, of_this);
         if matches!(of_this, Aim::Bound(_)) {
             tried = has_tried;
         }
@@ -176,7 +177,7 @@ fn share(random: &mut Random, module: &mut Module) {
 /// Whether a function follows the rules.
 fn follows(module: &Module, function: &Function) -> bool {
     let code = module.code_of(function);
-    matches!(code.last(), Some(Instruction::Jump { .. } | Instruction::Return))
+    code.last().is_some_and(|last| rules::ends(*last))
         && code.iter().all(|i| rules::named(module, function, *i))
         && code.iter().all(|i| rules::typed(module, function, *i))
 }
