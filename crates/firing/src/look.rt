@@ -39,7 +39,9 @@ fn tell_chain(rt: &HostRuntime, module: &Module, first: u32) -> anyhow::Result<(
 }
 
 fn tell_sensitive(rt: &HostRuntime, module: &Module) -> anyhow::Result<()> {
-    rt.print("These types are sensitive, each by a chain of links to void or function:\n")?;
+    rt.print(
+        "Values of these types are kept in a safe store, out of the panel's reach. Each is sensitive by a chain of links to void or function:\n",
+    )?;
     // Over the numbers of the types, since these are what is asked and told.
     let types = 0..module.lists().types.len() as u32;
     for t in types.filter(|t| module.is_sensitive(*t)) {

@@ -75,10 +75,16 @@ fn fire_by_steps(
     Ok(firing)
 }
 
+// What the contract of `Run::begin` says of every run; the two told above are cases of it.
+const PROMISE: &str =
+    "Of every run of every module, on any store and whatever a panel writes between its calls, it is proved:\n  each function entered through a pointer is one whose address the module took before;\n  what is marked in the store or in a frame is such a function, or has the bounds of one global or one allocated block, and nothing is reached through it outside these;\n  and two runs of one module that decide alike enter the same functions.\nNot promised are times and temperatures, what the panel shows, and that a run goes on.\n";
+
 fn main(rt: HostRuntime) -> anyhow::Result<()> {
     let module = read_module()?;
     let at = tell_module(&rt, &module)?;
     let first = fire_in_slices(&rt, &module, at)?;
     let second = fire_by_steps(&rt, &module, at)?;
-    compare(&rt, &first, &second)
+    compare(&rt, &first, &second)?;
+    rt.print(PROMISE)?;
+    Ok(())
 }

@@ -1,18 +1,19 @@
 // `k4 judge FILE`: whether an image is accepted, and if not, why.
-use anyhow::anyhow;
+use crate::image_file::read_image;
 use module::reading::judge;
-use std::fs;
+use std::process::ExitCode;
 
-pub(crate) fn judge_file(rt: &HostRuntime, path: &str) -> anyhow::Result<()> {
-    let image = fs::read(rt, path)?;
+// A refusal is the answer and no error: its one line goes where the answer goes.
+pub(crate) fn judge_file(rt: &HostRuntime, path: &str) -> anyhow::Result<ExitCode> {
+    let image = read_image(rt, path)?;
     match judge(image.as_slice()) {
         Ok(()) => {
             println!(rt; "accepted")?;
-            Ok(())
+            Ok(ExitCode::SUCCESS)
         }
         Err(fault) => {
             println!(rt; "{fault}")?;
-            Err(anyhow!("the image is refused"))
+            Ok(ExitCode::FAILURE)
         }
     }
 }

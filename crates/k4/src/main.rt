@@ -1,6 +1,7 @@
 // The user's tool of the K4 controller.
 #![tactic(auto)]
 
+mod image_file;
 mod judge;
 mod show;
 
@@ -13,8 +14,8 @@ use std::io::Read;
 use std::process::ExitCode;
 use words::text::Lines;
 
-const USAGE: &str =
-    "usage: k4 replay < SCRIPT\n       k4 judge FILE\n       k4 show FILE\n\nreplay  does the calls of a script, line by line, and writes what they answered\njudge   says whether the module image in FILE is accepted, and if not, why\nshow    writes what the module says\n";
+const HELP: &str =
+    "usage: k4 replay < SCRIPT\n       k4 judge FILE\n       k4 show FILE\n       k4 help\n\nreplay  does the calls of a script, line by line, and writes what they answered\n        k4 replay < firing.script > firing.transcript\njudge   says whether the module image in FILE is accepted, and if not, why\n        k4 judge kiln.image\nshow    writes what the module says, for a person to read\n        k4 show kiln.image\nhelp    writes this\n        k4 help\n";
 
 // Does the script from standard input and writes its transcript.
 fn replay(rt: &HostRuntime) -> anyhow::Result<()> {
@@ -30,40 +31,51 @@ fn replay(rt: &HostRuntime) -> anyhow::Result<()> {
 }
 
 // A command on the file that the next word names.
-fn on_file(rt: &HostRuntime, command: &str, path: &str) -> anyhow::Result<()> {
+fn on_file(rt: &HostRuntime, command: &str, path: &str) -> anyhow::Result<ExitCode> {
     match command {
         "judge" => judge_file(rt, path),
         "show" => show_file(rt, path),
-        _ => {
-            rt.print(USAGE)?;
-            Err(anyhow!("the first word names no command"))
-        }
+        _ => Err(anyhow!("'{command}' is no command; 'k4 help' lists them")),
     }
 }
 
-fn run(rt: &HostRuntime) -> anyhow::Result<()> {
+fn on_words(rt: &HostRuntime, command: &str, path: Option<&str>) -> anyhow::Result<ExitCode> {
+    match (command, path) {
+        ("help", _) => {
+            rt.print(HELP)?;
+            Ok(ExitCode::SUCCESS)
+        }
+        ("replay", _) => {
+            replay(rt)?;
+            Ok(ExitCode::SUCCESS)
+        }
+        (_, Some(path)) => on_file(rt, command, path),
+        ("judge" | "show", None) => Err(anyhow!("'{command}' wants a file: k4 {command} FILE")),
+        _ => Err(anyhow!("'{command}' is no command; 'k4 help' lists them")),
+    }
+}
+
+fn run(rt: &HostRuntime) -> anyhow::Result<ExitCode> {
     let mut words = env::args(rt)?;
     let _program = words.next();
     let Some(command) = words.next() else {
-        rt.print(USAGE)?;
-        return Ok(());
+        rt.print(HELP)?;
+        return Ok(ExitCode::SUCCESS);
     };
-    if command.as_str() == "replay" {
-        return replay(rt);
-    }
-    let Some(path) = words.next() else {
-        rt.print(USAGE)?;
-        return Err(anyhow!("a word is missing, or the first word names no command"));
-    };
-    on_file(rt, command.as_str(), path.as_str())
+    let path = words.next();
+    on_words(
+        rt,
+        command.as_str(),
+        path.as_ref().map(|path| path.as_str()),
+    )
 }
 
 fn main(rt: HostRuntime) -> ExitCode {
     match run(&rt) {
-        Ok(()) => ExitCode::SUCCESS,
+        Ok(code) => code,
         Err(error) => {
             // Where standard error fails too, the status still tells.
-            let _ = eprintln!(rt; "k4: {error}");
+            let _ = eprintln!(rt; "k4: {error:#}");
             ExitCode::FAILURE
         }
     }

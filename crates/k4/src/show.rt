@@ -1,11 +1,12 @@
 // `k4 show FILE`: what a module says, for a person to read.
+use crate::image_file::read_image;
 use anyhow::anyhow;
 use content::function::Function;
 use content::instruction::Instruction;
 use content::kind::Kind;
 use module::module::Module;
 use parts::lists::Lists;
-use std::fs;
+use std::process::ExitCode;
 
 fn mark(sensitive: bool) -> &'static str {
     if sensitive { ", sensitive" } else { "" }
@@ -94,12 +95,11 @@ fn show_functions(rt: &HostRuntime, module: &Module) -> anyhow::Result<()> {
     Ok(())
 }
 
-pub(crate) fn show_file(rt: &HostRuntime, path: &str) -> anyhow::Result<()> {
-    let image = fs::read(rt, path)?;
+pub(crate) fn show_file(rt: &HostRuntime, path: &str) -> anyhow::Result<ExitCode> {
+    let image = read_image(rt, path)?;
     let mut module = Module::new();
     if let Err(fault) = module.read(image.as_slice()) {
-        println!(rt; "{fault}")?;
-        return Err(anyhow!("the image is refused"));
+        return Err(anyhow!("{path} is refused, {fault}"));
     }
     let lists = module.lists();
     let (memory, depth) = (lists.memory, lists.depth);
@@ -108,5 +108,6 @@ pub(crate) fn show_file(rt: &HostRuntime, path: &str) -> anyhow::Result<()> {
     println!(rt; "depth: {depth}, so {frames} frames")?;
     show_types(rt, &module)?;
     show_globals(rt, &module)?;
-    show_functions(rt, &module)
+    show_functions(rt, &module)?;
+    Ok(ExitCode::SUCCESS)
 }

@@ -1,0 +1,123 @@
+-- Worked cases of what the definitions say.
+use Rattle.std.specs.Prelude.{◌≡◌, ◌≢◌, ℕ, ◌+◌, ◌<◌, true, false, List, [], ◌∷◌, length, is_some, Some, slice_index_or, vec_items}
+use Rattle.content.specs.declared.kind.Kind.{Kind}
+use Rattle.content.specs.declared.kind.Kind.TheVariants.{Number, Function, Pointer, Fields}
+use Rattle.content.specs.declared.typed.Typed.{Typed}
+use Rattle.content.specs.declared.instruction.Instruction.TheVariants as op
+use Rattle.sensitivity.specs.Sensitive.{Sensitive}
+use Rattle.stores.specs.Meaning.{Put}
+use Rattle.stores.specs.Slots.{SlotsKept}
+use Rattle.array_store.specs.Array.{array_entry, array_taken}
+use Rattle.array_store.specs.declared.ArrayStore.{ArrayStore}
+use Rattle.hash_store.specs.Hash.{HashDropped, hash_entry, hash_taken}
+use Rattle.hash_store.specs.declared.HashStore.{HashStore}
+use Rattle.window.specs.Window.{window_entry, window_taken}
+use Rattle.window.specs.declared.Window.{Window}
+use Rattle.tables.specs.Tables.{words}
+use Rattle.module.specs.Modules.{said}
+use Rattle.module.specs.declared.module.Module.{Module}
+use Rattle.values.specs.declared.bounds.Bounds.{Bounds}
+use Rattle.values.specs.declared.marked.Marked.{Marked as Mark}
+use Rattle.values.specs.declared.marked.Marked.TheVariants.{Code, Data}
+use Rattle.machine.specs.declared.value.Value.TheVariants.{Plain, Marked}
+use Rattle.machine.specs.declared.frame.Frame.{Frame}
+use Rattle.machine.specs.declared.event.EventKind.TheVariants.{Moved, Allocated}
+use Rattle.machine.specs.declared.refusal.Stop.TheVariants.{Outside, NotCode, HeapFull}
+use Rattle.machine.specs.Values.{word, read, wrapped}
+use Rattle.machine.specs.Frames.{value}
+use Rattle.machine.specs.Events.{event, other}
+use Rattle.machine.specs.Machine.{Sight, keeps, makes, stops, given, gives, sensitive, size, load_within, field_within, move, make}
+
+-- numbers, functions, pointers to functions, records of a number and a pointer to a function, pointers to these records, pointers to numbers
+abbrev pub kinds : List Kind
+kinds = Number ∷ Function ∷ Pointer 1 ∷ Fields 0 2 ∷ Pointer 3 ∷ Pointer 0 ∷ []
+
+-- the two fields of the record
+abbrev pub both : List Typed
+both = record { kind = 0 } ∷ record { kind = 2 } ∷ []
+
+-- the bounds from 4 to 6
+pub record FourToSix (b : Bounds) : Type 0 where
+  pub low : b.low ≡ 4
+  pub high : b.high ≡ 6
+
+-- local x holds the address of function 3, y is a pointer to what takes one word, both are sensitive, and z holds 1
+pub record Holding3 (m : Module) (f : Frame) (x y z : ℕ) : Type 0 where
+  pub three : value f x ≡ Marked (Code 3)
+  pub one : word (value f z) ≡ 1
+  pub sensitive_x : sensitive m f x ≡ true
+  pub sensitive_y : sensitive m f y ≡ true
+  pub size_y : size m f y ≡ 1
+  pub there_x : x < length f.locals
+  pub there_y : y < length f.locals
+  pub apart : z ≢ y
+
+module _ (m : Module) (s : Sight) (f : Frame) (rest : List Frame) (x y z : ℕ) where
+  -- the frames that a cast, a move and a cast back leave
+  abbrev pub cast_frame : Frame
+  cast_frame = given m f y (Marked (Code 3))
+
+  abbrev pub moved_frame : Frame
+  moved_frame = given m cast_frame y (Plain 4)
+
+  abbrev pub back_frame : Frame
+  back_frame = given m moved_frame x (Plain 4)
+
+  -- the four instructions, each in the frame that the one before it left
+  pub record Spoilt : Type 0 where
+    pub cast : make m s f rest (op.Cast y x) ≡ gives m s f rest other y (Marked (Code 3))
+    pub on : value cast_frame y ≡ Marked (Code 3)
+    pub moved : make m s cast_frame rest (op.Move y y z) ≡ gives m s cast_frame rest other y (Plain 4)
+    pub off : value moved_frame y ≡ Plain 4
+    pub back : make m s moved_frame rest (op.Cast x y) ≡ gives m s moved_frame rest other x (Plain 4)
+    pub called : make m s back_frame rest (op.CallThrough x) ≡ stops s NotCode
+
+-- of 10 words the globals take 4 and the heap none so far, x points at what takes 2 words, y holds 3, and z 2,147,483,648
+pub record Asked (m : Module) (s : Sight) (f : Frame) (x y z : ℕ) : Type 0 where
+  pub ten : (said m).memory ≡ 10
+  pub four : words (said m).types (said m).globals ≡ 4
+  pub unused : s.state.heap ≡ words (said m).types (said m).globals
+  pub two : size m f x ≡ 2
+  pub three : word (value f y) ≡ 3
+  pub many : word (value f z) ≡ 2147483648
+
+-- a hash store of 2 slots holds something at 5 and at 9
+pub record FiveAndNine (h : HashStore Mark) : Type 0 where
+  pub two : length (vec_items h.slots) ≡ 2
+  pub five : is_some (hash_entry (vec_items h.slots) 5) ≡ true
+  pub nine : is_some (hash_entry (vec_items h.slots) 9) ≡ true
+
+-- a window of 8 addresses, from 100 on, over an array store of 200 slots
+pub record Eight (w : Window (ArrayStore Mark)) : Type 0 where
+  pub base : w.base ≡ 100
+  pub len : w.len ≡ 8
+  pub slots : length (vec_items w.below.slots) ≡ 200
+
+pub record Worked : Type 0 where
+  -- A pointer to itself isn't sensitive.
+  pub circle : Sensitive (Pointer 0 ∷ []) [] 0 → ⊥
+  -- A pointer to a record of a number and a function pointer is sensitive.
+  pub through_record : Sensitive kinds both 4
+  -- A pointer to a number isn't.
+  pub to_number : Sensitive kinds both 5 → ⊥
+  -- Within the bounds from 4 to 6 a load at 5 is made, and at 6 it stops.
+  pub load : (m : Module) (s : Sight) (f : Frame) (rest : List Frame) (x : ℕ) (b : Bounds) → FourToSix b
+      → (load_within m s f rest x (Marked (Data 5 b)) ≡ gives m s f rest other x (read (s.entries 5) (slice_index_or s.memory 5 0))) × (load_within m s f rest x (Marked (Data 6 b)) ≡ stops s Outside)
+  -- Within them a step to a field of a record of two words is made at 4, and at 5 it stops.
+  pub field : (m : Module) (s : Sight) (f : Frame) (rest : List Frame) (x k : ℕ) (b : Bounds) → FourToSix b
+      → (field_within m s f rest x (Marked (Data 4 b)) k 2 ≡ gives m s f rest other x (Marked (Data (wrapped (4 + k)) b))) × (field_within m s f rest x (Marked (Data 5 b)) k 2 ≡ stops s Outside)
+  -- Word 4 moved by 4,294,967,295, each of 2 words, is word 2, whether plain or data.
+  pub around : (m : Module) (s : Sight) (f : Frame) (rest : List Frame) (x : ℕ) (b : Bounds)
+      → (move m s f rest x (Plain 4) 4294967295 2 ≡ gives m s f rest other x (Plain 2)) × (move m s f rest x (Marked (Data 4 b)) 4294967295 2 ≡ gives m s f rest (event Moved 4294967295) x (Marked (Data 2 b)))
+  -- A function's address that is cast keeps its mark, loses it as it is moved, and doesn't get it back: the call through it stops.
+  pub spoilt : (m : Module) (s : Sight) (f : Frame) (rest : List Frame) (x y z : ℕ) → Holding3 m f x y z → Spoilt m s f rest x y z
+  -- Of 10 words, 4 of them the globals', the heap gives three times two, which are all that it has; asked for 2,147,483,648 times two, which would wrap around to none, it stops.
+  pub heap : (m : Module) (s : Sight) (f : Frame) (rest : List Frame) (x y z : ℕ) → Asked m s f x y z
+      → ((b : Bounds) × (b.low ≡ 4) × (b.high ≡ 10) × (make m s f rest (op.Allocate x y) ≡ makes (event Allocated 3) (given m f x (Marked (Data 4 b)) ∷ rest) 10 keeps s.memory)) × (make m s f rest (op.Allocate x z) ≡ stops s HeapFull)
+  -- A hash store of 2 slots that holds 5 and 9 doesn't take 7, and does once 5 was dropped.
+  pub hashed : (h i : HashStore Mark) → FiveAndNine h
+      → (hash_taken (vec_items h.slots) 7 ≡ false) × (HashDropped (vec_items h.slots) (vec_items i.slots) 5 → SlotsKept (vec_items h.slots) (vec_items i.slots) → hash_taken (vec_items i.slots) 7 ≡ true)
+  -- A window of 8 addresses from 100 on takes 7, which is 107 below, and holds what is put there, but doesn't take 8.
+  pub window : (w x : Window (ArrayStore Mark)) (v : Mark) → Eight w → Eight x
+      → (window_taken array_taken w 7 ≡ true) × (array_taken w.below 107 ≡ true) × (window_entry array_entry w 7 ≡ array_entry w.below 107) × (Put (window_entry array_entry w) (window_entry array_entry x) (window_taken array_taken w) (window_taken array_taken x) 7 v → array_entry x.below 107 ≡ Some v)
+      × (window_taken array_taken w 8 ≡ false)
