@@ -4,7 +4,8 @@
 An implementation of docs/IMAGE.md that shares nothing with the crates:
 `images.py script` writes a replay script, `images.py transcript` what it has to
 write, `images.py files DIR` stores some of its images, each under its answer,
-and `images.py show FILE` writes what `k4 show FILE` has to write.
+`images.py show FILE` writes what `k4 show FILE` has to write, and `images.py
+state FILE` all of `k4 state FILE` but its last line, from docs/INTEGRITY.md.
 """
 import random
 import struct
@@ -15,7 +16,7 @@ WIDTHS = (3, 1, 2, 1, 4, 4)
 COUNTS = ((1, 64), (0, 256), (0, 64), (0, 256), (1, 64), (1, 1024))
 NUMBER, VOID, FUNCTION, POINTER, RECORD = range(5)
 USED = (2, 3, 3, 3, 2, 1, 2, 2, 2, 2, 3, 3, 2, 2, 1, 1, 0)
-JUMP, BRANCH, RETURN = 5, 6, 16
+JUMP, BRANCH, ADDRESS, CALL, RETURN = 5, 6, 7, 14, 16
 BIG = 2**32 - 1
 
 
@@ -486,6 +487,29 @@ def show(data):
             yield "%s %d: %s" % (">" if i in targets else " ", i, WORDS[op].format(*words))
 
 
+def state(data):
+    """Which functions of an accepted image can be entered, and why, by a search from function 0."""
+    functions, code = parse(data)[2][4:]
+    found, waiting, calls, addresses = {0}, [0], {}, {}
+    while waiting:
+        f = waiting.pop()
+        first, n = functions[f][:2]
+        for i, (op, a, b, _) in enumerate(code[first:first + n]):
+            if op in (CALL, ADDRESS):
+                g, sites = (a, calls) if op == CALL else (b, addresses)
+                sites.setdefault(g, []).append((f, i))
+                if g not in found:
+                    found.add(g)
+                    waiting.append(g)
+    for g in range(len(functions)):
+        why = ["every run begins in it"] if g == 0 else []
+        if g in calls:
+            why.append("function %d calls it at place %d" % min(calls[g]))
+        if g in addresses:
+            why.append("through a pointer, as function %d takes its address at place %d" % min(addresses[g]))
+        yield "function %d can%s be entered%s" % (g, "" if why else "'t", ": " + "; ".join(why) if why else "")
+
+
 def main():
     what = sys.argv[1:]
     if what == ["script"] or what == ["transcript"]:
@@ -493,8 +517,9 @@ def main():
             print(line if what == ["script"] else answer)
     elif len(what) == 2 and what[0] == "files":
         files(Path(what[1]))
-    elif len(what) == 2 and what[0] == "show":
-        for line in show(Path(what[1]).read_bytes()):
+    elif len(what) == 2 and what[0] in ("show", "state"):
+        tell = show if what[0] == "show" else state
+        for line in tell(Path(what[1]).read_bytes()):
             print(line)
     else:
         sys.exit(__doc__)

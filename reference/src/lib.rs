@@ -1,5 +1,6 @@
 //! A second program for the replay script, written from docs/ alone.
 
+pub mod entering;
 pub mod image;
 pub mod lines;
 pub mod machine;

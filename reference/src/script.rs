@@ -24,6 +24,24 @@ pub fn transcript(script: &[u8]) -> Vec<u8> {
     written
 }
 
+/// The images of a script that are accepted, in order, and the same one once.
+pub fn accepted(script: &[u8]) -> Vec<Vec<u8>> {
+    let mut images = Vec::new();
+    for line in script.split(|byte| *byte == b'\n') {
+        let mut words = Words::of(line);
+        if words.are_passed_over() {
+            continue;
+        }
+        if let Ok(Call::Image(bytes)) = words.call()
+            && Module::read(&bytes).is_ok()
+            && !images.contains(&bytes)
+        {
+            images.push(bytes);
+        }
+    }
+    images
+}
+
 impl Default for Replay {
     fn default() -> Replay {
         Replay::new()

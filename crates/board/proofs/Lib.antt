@@ -1,3 +1,4 @@
-mod Digests
-mod Lines
-mod Standing
+pub mod Digests
+pub mod Going
+pub mod Lines
+pub mod Standing

@@ -1,5 +1,6 @@
 -- The lines that tell of the frames and of what the store holds.
 use Rattle.std.specs.Prelude.{◌≡◌, ℕ, zero, suc, ◌+◌, cond, List, [], ◌∷◌, ◌++◌, length, flat_map, is_some, Some, None, Ok, string_bytes, codes, decimal, Option, Result, String, IfOk}
+use Rattle.std.specs.List.{slice_get}
 use Rattle.std.specs.declared.alloc.AllocError.{AllocError}
 use Rattle.std.specs.declared.alloc.Global.{Global}
 use Rattle.values.specs.Written.{written}
@@ -24,6 +25,14 @@ frame_line f = codes "frame " ++ (decimal f.function ++ (codes " " ++ (decimal f
 abbrev pub frame_lines : List Frame → List ℕ
 frame_lines [] = []
 frame_lines (f ∷ fs) = frame_lines fs ++ frame_line f
+
+-- of the frame that stands k below the newest, if one does
+abbrev pub line_of : Option Frame → List ℕ
+line_of None = []
+line_of (Some f) = frame_line f
+
+abbrev pub line_at : List Frame → ℕ → List ℕ
+line_at fs k = line_of (slice_get fs k)
 
 abbrev pub entry_line : ℕ → Option Marked → List ℕ
 entry_line a None = []

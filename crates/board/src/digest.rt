@@ -3,6 +3,7 @@ ghost use Rattle.std.specs.Prelude.{◌≡◌};
 ghost use Rattle.board.specs.Memories.{digest_of};
 
 // The sum of the words, each times its place counted from 1. It wraps as words do.
+#[tactic(auto, using(crate::proofs::Digests::one_more))]
 pub(crate) fn digest_of(words: &[u32]) -> u32
     ensures { result ≡ digest_of words.now }
 {

@@ -4,7 +4,7 @@ ghost use Rattle.board.specs.Listings.{local_word};
 ghost use Rattle.board.specs.Shown.{event_line};
 
 use machine::event::Event;
-use machine::value::Value;
+use machine::held::Held;
 use std::fmt;
 
 // Events, a line each.
@@ -24,13 +24,14 @@ impl<'a> fmt::Display for Listed<'a> {
 
 // The values of a frame's locals, each after a blank.
 #[derive(Clone, Copy)]
-pub(crate) struct Locals<'a>(pub(crate) &'a [Value]);
+pub(crate) struct Locals<'a>(pub(crate) &'a [Held]);
 
 impl<'a> fmt::Display for Locals<'a> {
     ghost output = { λ l. Some (flat_map local_word l.0.now) };
 
     fn fmt<W: fmt::Write>(&self, f: &mut fmt::Formatter<W>) -> fmt::Result {
         for value in self.0 {
+            let value = value.value();
             write!(f, " {value}")?;
         }
         Ok(())

@@ -1,7 +1,7 @@
 // The lines that list what a run holds.
 ghost use Rattle.std.specs.Prelude.{◌≡◌, IfOk, string_bytes};
 ghost use Rattle.module.specs.Modules.{said};
-ghost use Rattle.board.specs.Listings.{EntriesTold, Frames, Listed, frame_line, frame_lines};
+ghost use Rattle.board.specs.Listings.{EntriesTold, Frames, FramesTold, Listed, entry_line, frame_line, frame_lines, line_at};
 
 use crate::board::Board;
 use crate::listed::Locals;
@@ -21,24 +21,48 @@ fn frame_line(heap: Global, frame: &Frame) -> Result<String, AllocError>
     format!(in heap; "frame {function} {place}{locals}\n")
 }
 
+// Nothing where no frame stands so far below the newest.
+fn line_at<S>(heap: Global, run: &Run<S>, k: usize) -> Result<String, AllocError>
+    ensures { IfOk result (λ s. string_bytes s ≡ line_at run.now.stack k) }
+{
+    match run.frame(k) {
+        Some(frame) => frame_line(heap, frame),
+        None => Ok(String::new(heap)),
+    }
+}
+
 // The oldest first.
+#[tactic(auto, using(crate::proofs::Lines::one_frame))]
 fn frame_lines<S>(heap: Global, run: &Run<S>) -> Result<String, AllocError>
     ensures { IfOk result (λ s. string_bytes s ≡ frame_lines run.now.stack) }
 {
     let depth = run.depth();
     let mut text = String::new(heap);
     for i in 0..depth {
-        match run.frame(depth - 1 - i) {
-            Some(frame) => {
-                let line = frame_line(heap, frame)?;
-                text.push_str(line.as_str())?;
-            }
-            None => {}
-        }
+        let line = line_at(heap, run, depth - 1 - i)?;
+        text.push_str(line.as_str())?;
     }
     Ok(text)
 }
 
+fn list_frames<S>(heap: Global, run: &Run<S>) -> Result<Report, AllocError>
+    ensures { IfOk result (FramesTold run.now.stack) }
+{
+    let lines = frame_lines(heap, run)?;
+    Ok(Report::Frames(run.depth(), lines))
+}
+
+// Nothing where nothing is held.
+fn entry_line(heap: Global, a: u32, entry: Option<Marked>) -> Result<String, AllocError>
+    ensures { IfOk result (λ s. string_bytes s ≡ entry_line a entry) }
+{
+    match entry {
+        Some(value) => format!(in heap; "entry {a} {value}\n"),
+        None => Ok(String::new(heap)),
+    }
+}
+
+#[tactic(auto, using(crate::proofs::Lines::below_is, crate::proofs::Lines::one_line, crate::proofs::Lines::one_held))]
 fn list_entries<S: Store<Entry = Marked>>(heap: Global, run: &Run<S>) -> Result<Report, AllocError>
     ensures { IfOk result (EntriesTold (S.entry run.now.store) (said run.now.module).memory) }
 {
@@ -46,14 +70,10 @@ fn list_entries<S: Store<Entry = Marked>>(heap: Global, run: &Run<S>) -> Result<
     let mut count: u32 = 0;
     let mut text = String::new(heap);
     for a in 0..memory {
-        match run.entry(a) {
-            Some(value) => {
-                let line = format!(in heap; "entry {a} {value}\n")?;
-                text.push_str(line.as_str())?;
-                count += 1;
-            }
-            None => {}
-        }
+        let entry = run.entry(a);
+        count += u32::from(entry.is_some());
+        let line = entry_line(heap, a, entry)?;
+        text.push_str(line.as_str())?;
     }
     Ok(Report::Entries(count, text))
 }
@@ -63,7 +83,7 @@ impl<S> Board<S> {
         ensures { Frames self.now.run result }
     {
         match &self.run {
-            Some(run) => Ok(Report::Frames(run.depth(), frame_lines(heap, run)?)),
+            Some(run) => list_frames(heap, run),
             None => Ok(Report::NoRun),
         }
     }

@@ -1,6 +1,7 @@
 // The lines about the run.
-ghost use Rattle.std.specs.Prelude.{◌≡◌, vec_items};
-ghost use Rattle.board.specs.Runs.{Begins, Goes, Steps, Went, told_status};
+ghost use Rattle.std.specs.Prelude.{◌≡◌, replicate, vec_items, IfOk};
+ghost use Rattle.machine.specs.Events.{other};
+ghost use Rattle.board.specs.Runs.{Begins, Begun, Goes, Stepped, Steps, Went, told_status};
 
 use crate::board::Board;
 use crate::report::Report;
@@ -11,7 +12,27 @@ use std::alloc::{AllocError, Global};
 use stores::store::Store;
 use values::marked::Marked;
 
+fn begun<S: Store<Entry = Marked>>(of: &Module, store: S) -> Run<S>
+    ensures { Begun S.entry S.taken S.kept of.now store result }
+{
+    Run::begin(of, store)
+}
+
+fn step_on<S: Store<Entry = Marked>>(run: &mut Run<S>, memory: &mut [u32]) -> Report
+    ensures { Stepped S.entry S.taken S.kept run.old memory.old result run.new memory.new }
+{
+    Report::Stepped(run.step(memory))
+}
+
+// So many events, to be written over.
+fn room_for(heap: Global, most: u32) -> Result<Vec<Event>, AllocError>
+    ensures { IfOk result (λ v. vec_items v ≡ replicate most other) }
+{
+    vec![in heap; OTHER; most as usize]
+}
+
 // Of the list, only the events of the steps that were made are told.
+#[tactic(auto, using(crate::proofs::Going::went_made))]
 fn go_on<S: Store<Entry = Marked>>(run: &mut Run<S>, memory: &mut [u32], room: Vec<Event>) -> Report
     ensures { Went S.entry S.taken S.kept run.old memory.old (vec_items room) result run.new memory.new }
 {
@@ -27,12 +48,13 @@ fn go_on<S: Store<Entry = Marked>>(run: &mut Run<S>, memory: &mut [u32], room: V
 
 impl<S: Store<Entry = Marked> + Drop> Board<S> {
     // A run of the module begins on the store, and any earlier run is gone.
+    #[tactic(auto, using(crate::proofs::Standing::begins_so))]
     pub fn begin(&mut self, of: &Module, store: Option<S>) -> Report
         ensures { Begins S.entry S.taken S.kept of.now store self.old result self.new }
     {
         match store {
             Some(store) => {
-                self.run = Some(Run::begin(of, store));
+                self.run = Some(begun(of, store));
                 Report::Begun
             }
             None => Report::NoStore,
@@ -43,7 +65,7 @@ impl<S: Store<Entry = Marked> + Drop> Board<S> {
         ensures { Steps S.entry S.taken S.kept self.old.run self.old result self.new }
     {
         match &mut self.run {
-            Some(run) => Report::Stepped(run.step(self.memory.as_mut_slice())),
+            Some(run) => step_on(run, self.memory.as_mut_slice()),
             None => Report::NoRun,
         }
     }
@@ -54,7 +76,7 @@ impl<S: Store<Entry = Marked> + Drop> Board<S> {
     {
         match &mut self.run {
             Some(run) => {
-                let room = vec![in heap; OTHER; most as usize]?;
+                let room = room_for(heap, most)?;
                 Ok(go_on(run, self.memory.as_mut_slice(), room))
             }
             None => Ok(Report::NoRun),

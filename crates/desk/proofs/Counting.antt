@@ -1,14 +1,25 @@
--- One number more, or none.
-use Rattle.std.proofs.Common.{◌≡◌, ℕ, ◌+◌, Bool, true, false, cond, List, [], ◌++◌, get_or, codes, decimal, sym, ap, ◌∙◌, add-one}
-use Rattle.std.proofs.lemmas.List.{append-nil}
-use Rattle.desk.specs.Telling.{numbered}
+-- The numbers of the sensitive types, one after another.
+use Rattle.std.proofs.Common.{◌≡◌, ℕ, ◌+◌, ◌≤◌, Bool, false, List, ◌++◌, length, get_or, Decides, sym, ap, ◌∙◌, add-one, arith}
+use Rattle.std.proofs.lemmas.List.{length-take}
+use Rattle.std.proofs.lemmas.Bool.Decides.{same_from_decides}
+use Rattle.sensitivity.specs.Sensitive.{Sensitive}
+use Rattle.parts.specs.Content.{Content, viewed}
+use Rattle.parts.specs.declared.lists.Lists.{Lists}
+use Rattle.module.specs.Modules.{said}
+use Rattle.module.specs.declared.module.Module.{Module}
+use Rattle.desk.specs.Telling.{Listed, number_if, numbered}
 
-module _ (marks : List Bool) (t : ℕ) (old : List ℕ) (so_far : old ≡ numbered marks t) where
-  next : (b : Bool) → get_or marks t false ≡ b → old ++ cond b (codes " " ++ decimal t) [] ≡ numbered marks (t + 1)
-  next b e = ap (λ l. l ++ cond b (codes " " ++ decimal t) []) so_far ∙ ap (λ v. numbered marks t ++ cond v (codes " " ++ decimal t) []) (sym e) ∙ ap (numbered marks) (sym (add-one t))
+pub one_more : (marks : List Bool) (t : ℕ) → numbered marks (t + 1) ≡ numbered marks t ++ number_if (get_or marks t false) t
+one_more marks t = ap (numbered marks) (add-one t)
 
-  pub one_more : get_or marks t false ≡ true → old ++ (codes " " ++ decimal t) ≡ numbered marks (t + 1)
-  one_more e = next true e
+module _ (m : Module) where
+  pub is_marked : (t : ℕ) (b : Bool) → Decides b (Sensitive (said m).types (said m).fields t) → get_or m.sensitive t false ≡ b
+  is_marked t b d = same_from_decides _ _ (m.right t) d
 
-  pub none_more : get_or marks t false ≡ false → old ≡ numbered marks (t + 1)
-  none_more e = sym (append-nil old) ∙ next false e
+  pub few_types : (l : Lists) → viewed l ≡ said m → length l.types.now ≤ 64
+  few_types l is =
+      let few : m.parts.header.counts.types ≤ 64 = m.parts.header.few.few_types in
+      omega (arith, ap (λ (k : Content). length k.types) is, length-take m.parts.header.counts.types m.parts.types)
+
+  pub listed_all : (l : Lists) (n : ℕ) (text : List ℕ) → viewed l ≡ said m → n ≡ length l.types.now → text ≡ numbered m.sensitive n → Listed (said m) text
+  listed_all l n text is all listed = record { marks = m.sensitive; right = m.right; text_is = listed ∙ ap (numbered m.sensitive) (all ∙ ap (λ (k : Content). length k.types) is) }

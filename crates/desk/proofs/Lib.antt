@@ -1,1 +1,2 @@
-mod Counting
+pub mod Counting
+pub mod Writes

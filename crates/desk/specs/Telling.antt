@@ -19,19 +19,27 @@ pub record ReadSo (s : List ℕ) (m : Module) (t : Told) (n : Module) : Type 0 w
   pub tells : t ≡ Read answer
   pub answers : MatchResult answer (λ _. Follows s (said n)) (λ f. Refused s f × (n ≡ m))
 
--- The image was written to so many bytes that each held 165.
-pub record WroteSo (image : List ℕ) (count : ℕ) (t : Told) : Type 0 where
+-- The image was written over these bytes.
+pub record WroteOver (image old : List ℕ) (t : Told) : Type 0 where
   pub answer : Result ℕ TooShort
   pub bytes : List ℕ
   pub hex : String Global
   pub tells : t ≡ Wrote answer hex
-  pub written : Written image (replicate count 165) bytes answer
+  pub written : Written image old bytes answer
   pub spelled : string_bytes hex ≡ hex_of bytes
+
+-- The image was written to so many bytes that each held 165.
+abbrev pub WroteSo : List ℕ → ℕ → Told → Type 0
+WroteSo image count = WroteOver image (replicate count 165)
+
+-- a number after a blank, or nothing
+abbrev pub number_if : Bool → ℕ → List ℕ
+number_if marked n = cond marked (codes " " ++ decimal n) []
 
 -- the numbers below n that are marked, rising, each after a blank
 abbrev pub numbered : List Bool → ℕ → List ℕ
 numbered marks zero = []
-numbered marks (suc n) = numbered marks n ++ cond (slice_index_or marks n false) (codes " " ++ decimal n) []
+numbered marks (suc n) = numbered marks n ++ number_if (slice_index_or marks n false) n
 
 -- The text has exactly the numbers of the sensitive types.
 pub record Listed (c : Content) (text : List ℕ) : Type 0 where

@@ -8,7 +8,7 @@ ghost use Rattle.run_lines.specs.Asks.{asked_words as asked_run};
 ghost use Rattle.desk.specs.Answers.{ByRun, Done, Heard};
 ghost use Rattle.desk.specs.Runs.{Ran};
 
-use crate::doing::{read_image, sensitive_types, write_image};
+use crate::doing::{list_sensitive, read_image, write_image};
 use crate::told::Told;
 use board::board::Board;
 use board::report::Report;
@@ -48,7 +48,7 @@ impl Desk {
         match line {
             ImageLine::Image(digits) => read_image(heap, &mut self.module, digits),
             ImageLine::Write(len) => write_image(heap, &self.module, len),
-            ImageLine::Sensitive => Ok(Told::Sensitive(sensitive_types(heap, &self.module)?)),
+            ImageLine::Sensitive => list_sensitive(heap, &self.module),
         }
     }
 

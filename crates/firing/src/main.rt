@@ -9,16 +9,19 @@ mod kiln;
 mod look;
 mod panel;
 mod segment;
+mod statement;
 mod telling;
 
 use array_store::ArrayStore;
 use comparing::compare;
+use enterable::functions::EnterableFunctions;
 use firing::{Firing, SLICE};
 use hash_store::HashStore;
 use look::{read_module, tell_module};
 use module::module::Module;
 use panel::Panel;
 use segment::Segment;
+use statement::tell_statement;
 use tables::places::Span;
 use values::marked::Marked;
 use window::Window;
@@ -31,7 +34,12 @@ const BASE: u32 = 1000;
 type Shown = Window<HashStore<Marked>>;
 
 // On a hash store behind a window, in slices; the panel bends the table.
-fn fire_in_slices(rt: &HostRuntime, module: &Module, at: Span) -> anyhow::Result<Firing<Shown>> {
+fn fire_in_slices(
+    rt: &HostRuntime,
+    module: &Module,
+    at: Span,
+    stated: &EnterableFunctions,
+) -> anyhow::Result<Firing<Shown>> {
     let heap = rt.alloc();
     let memory = module.memory();
     let slots = vec![in heap; None; SLOTS]?;
@@ -46,6 +54,7 @@ fn fire_in_slices(rt: &HostRuntime, module: &Module, at: Span) -> anyhow::Result
     let mut firing = Firing::begin(heap, module, store)?;
     firing.go_in_slices(rt, panel)?;
     firing.tell(rt, at)?;
+    firing.tell_within(rt, stated)?;
     Ok(firing)
 }
 
@@ -54,6 +63,7 @@ fn fire_by_steps(
     rt: &HostRuntime,
     module: &Module,
     at: Span,
+    stated: &EnterableFunctions,
 ) -> anyhow::Result<Firing<ArrayStore<Marked>>> {
     let heap = rt.alloc();
     let memory = module.memory();
@@ -72,18 +82,20 @@ fn fire_by_steps(
     let mut firing = Firing::begin(heap, module, store)?;
     firing.go_by_steps(rt, panel)?;
     firing.tell(rt, at)?;
+    firing.tell_within(rt, stated)?;
     Ok(firing)
 }
 
 // What the contract of `Run::begin` says of every run; the two told above are cases of it.
 const PROMISE: &str =
-    "Of every run of every module, on any store and whatever a panel writes between its calls, it is proved:\n  each function entered through a pointer is one whose address the module took before;\n  what is marked in the store or in a frame is such a function, or has the bounds of one global or one allocated block, and nothing is reached through it outside these;\n  and two runs of one module that decide alike enter the same functions.\nNot promised are times and temperatures, what the panel shows, and that a run goes on.\n";
+    "Of every run of every module, on any store and whatever a panel writes between its calls, it is proved:\n  no function is entered but those that are stated for the module as above;\n  each function entered through a pointer is one whose address the module took before;\n  what is marked in the store or in a frame is such a function, or has the bounds of one global or one allocated block, and nothing is reached through it outside these;\n  and two runs of one module that decide alike enter the same functions.\nNot promised are times and temperatures, what the panel shows, and that a run goes on.\n";
 
 fn main(rt: HostRuntime) -> anyhow::Result<()> {
     let module = read_module()?;
     let at = tell_module(&rt, &module)?;
-    let first = fire_in_slices(&rt, &module, at)?;
-    let second = fire_by_steps(&rt, &module, at)?;
+    let stated = tell_statement(&rt, &module)?;
+    let first = fire_in_slices(&rt, &module, at, &stated)?;
+    let second = fire_by_steps(&rt, &module, at, &stated)?;
     compare(&rt, &first, &second)?;
     rt.print(PROMISE)?;
     Ok(())

@@ -16,3 +16,4 @@ pub mod Runs
 pub mod Sizes
 pub mod Typed
 pub mod Whole
+pub mod Within

@@ -1,13 +1,15 @@
 -- The integrity theorem, from what each made step keeps and tells.
-use Rattle.std.specs.Prelude.{◌≡◌, ℕ, List, [], ◌∷◌, ◌++◌, Some, None, Ok}
+use Rattle.std.specs.Prelude.{◌≡◌, ℕ, true, List, [], ◌∷◌, ◌++◌, Some, None, Ok}
 use Rattle.content.specs.declared.instruction.Instruction.{Instruction}
+use Rattle.module.specs.Modules.{said}
 use Rattle.module.specs.declared.module.Module.{Module}
+use Rattle.enterable.specs.Enterable.{Enterable, EnterableThrough}
 use Rattle.values.specs.declared.marked.Marked.{Marked as Mark}
 use Rattle.machine.specs.declared.value.Value.TheVariants.{Marked}
 use Rattle.machine.specs.declared.frame.Frame.{Frame}
 use Rattle.machine.specs.declared.event.Event.{Event}
 use Rattle.machine.specs.declared.event.EventKind.TheVariants.{CalledThrough}
-use Rattle.machine.specs.Events.{event}
+use Rattle.machine.specs.Events.{event, enters}
 use Rattle.machine.specs.Frames.{value}
 use Rattle.machine.specs.Machine.{Sight, Step}
 use Rattle.machine.specs.Goes.{Made, made}
@@ -21,6 +23,7 @@ use Rattle.integrity.proofs.Objects.{Laid, laid_begin, laid_quiet, laid_step, ap
 use Rattle.integrity.proofs.Placed.{Placed, placed_begin, placed_quiet, placed_step, named_of}
 use Rattle.integrity.proofs.Reached.{entered_step, reached_step}
 use Rattle.integrity.proofs.Runs.{Quiet, runs_of}
+use Rattle.integrity.proofs.Within.{Bound, bound_begin, bound_quiet, through_step, entered_within, bound_step}
 use Rattle.integrity.proofs.AlikeRuns.{alike_of}
 
 module _ (m : Module) where
@@ -29,17 +32,20 @@ module _ (m : Module) where
     fair : Fair m h s
     laid : Laid m h s
     placed : Placed m s
+    bound : Bound m h s
 
   -- what is told of a made step, with the history before it
   record Tells (h : List Made) (d : Made) : Type 0 where
     entered : (g : ℕ) → d.event ≡ event CalledThrough g → TookBy m h g
     reached : (f : Frame) (i : Instruction) (y words : ℕ) (v : Mark) → Did m d f i → through m f i ≡ Some (y, words) → value f y ≡ Marked v → Inside v words
+    enterable : enters d.event.kind ≡ true → Enterable (said m) d.event.word
+    enterable_through : (g : ℕ) → d.event ≡ event CalledThrough g → EnterableThrough (said m) g
 
   begins : (s : Sight) → Begun m s → Keeps [] s
-  begins s b = record { fair = fair_begin m s b; laid = laid_begin b; placed = placed_begin m s b }
+  begins s b = record { fair = fair_begin m s b; laid = laid_begin b; placed = placed_begin m s b; bound = bound_begin m s b }
 
   calm : (h : List Made) (s s' : Sight) → Keeps h s → Quiet s s' → Keeps h s'
-  calm h s s' k q = record { fair = fair_quiet m h s s' k.fair q; laid = laid_quiet k.laid q; placed = placed_quiet m s s' q k.placed }
+  calm h s s' k q = record { fair = fair_quiet m h s s' k.fair q; laid = laid_quiet k.laid q; placed = placed_quiet m s s' q k.placed; bound = bound_quiet m h s s' q k.bound }
 
   keeps : (h : List Made) (s : Sight) (e : Event) (s' : Sight) → Keeps h s → Step m s (Ok e) s' → Keeps (h ++ made s e s' ∷ []) s'
   keeps h s e s' k p =
@@ -47,10 +53,18 @@ module _ (m : Module) where
         fair = fair_step m h s s' e (λ o low high there. (inside_of k.laid o low high there).1) k.fair p;
         laid = laid_step k.laid p;
         placed = placed_step m h s e s' k.placed (entered_step m h s s' e k.fair p) p;
+        bound = bound_step m h s e s' k.bound (entered_step m h s s' e k.fair p) p;
       }
 
   tells : (h : List Made) (s : Sight) (e : Event) (s' : Sight) → Keeps h s → Step m s (Ok e) s' → Tells h (made s e s')
-  tells h s e s' k p = record { entered = entered_step m h s s' e k.fair p; reached = reached_step m h s s' e k.fair p }
+  tells h s e s' k p =
+      let took = entered_step m h s s' e k.fair p in
+      record {
+        entered = took;
+        reached = reached_step m h s s' e k.fair p;
+        enterable = entered_within m h s e s' k.bound took p;
+        enterable_through = through_step m h s e s' k.bound took;
+      }
 
   sound : (s : Sight) → Begun m s → (h : List Made) (s' : Sight) → Calls m s h s' → Sound m h s'
   sound s b h s' c =
@@ -66,6 +80,11 @@ module _ (m : Module) where
         named = named_of m h;
         placed = k.placed;
         left = held_is m (λ _. None) b.clear (runs_of m c);
+        within = record {
+          entered = λ n d at. (whole.1 n d at).enterable;
+          through = λ n g d at. (whole.1 n d at).enterable_through g;
+          standing = k.bound.standing;
+        };
       }
 
   pub integral : (s : Sight) → Begun m s → Integrity m s

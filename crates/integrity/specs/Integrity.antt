@@ -1,16 +1,17 @@
 -- The integrity theorem: what holds of every sequence of calls after a begin, on every store, with any writes of the panel.
-use Rattle.std.specs.Prelude.{◌≡◌, ◌≢◌, ℕ, ◌+◌, ◌<◌, ◌≤◌, ◌⊎◌, List, length, take, Some, None}
+use Rattle.std.specs.Prelude.{◌≡◌, ◌≢◌, ℕ, ◌+◌, ◌<◌, ◌≤◌, true, ◌⊎◌, List, length, take, Some, None}
 use Rattle.std.specs.List.{slice_get}
 use Rattle.content.specs.declared.instruction.Instruction.{Instruction}
 use Rattle.module.specs.Modules.{said}
 use Rattle.module.specs.declared.module.Module.{Module}
+use Rattle.enterable.specs.Enterable.{Enterable, EnterableThrough}
 use Rattle.values.specs.declared.bounds.Bounds.{Bounds}
 use Rattle.values.specs.declared.marked.Marked.{Marked as Mark}
 use Rattle.values.specs.declared.marked.Marked.TheVariants.{Data}
 use Rattle.machine.specs.declared.value.Value.TheVariants.{Marked}
 use Rattle.machine.specs.declared.frame.Frame.{Frame}
 use Rattle.machine.specs.declared.event.EventKind.TheVariants.{CalledThrough}
-use Rattle.machine.specs.Events.{event}
+use Rattle.machine.specs.Events.{event, enters}
 use Rattle.machine.specs.Frames.{value}
 use Rattle.machine.specs.Machine.{Sight, beginning, instruction}
 use Rattle.machine.specs.Goes.{Made}
@@ -29,6 +30,15 @@ pub record Inside (v : Mark) (words : ℕ) : Type 0 where
   pub is : v ≡ Data word bounds
   pub from : bounds.low ≤ word
   pub upto : word + words ≤ bounds.high
+
+-- every function that was entered, and that of every standing frame, is one that can be
+pub record Within (m : Module) (h : List Made) (s : Sight) : Type 0 where
+  -- every function that was entered, by a call or through a pointer, can be entered
+  pub entered : (n : ℕ) (d : Made) → slice_get h n ≡ Some d → enters d.event.kind ≡ true → Enterable (said m) d.event.word
+  -- every one that was entered through a pointer can be entered through one
+  pub through : (n g : ℕ) (d : Made) → slice_get h n ≡ Some d → d.event ≡ event CalledThrough g → EnterableThrough (said m) g
+  -- the function of every standing frame can be entered
+  pub standing : (k : ℕ) (f : Frame) → slice_get s.state.stack k ≡ Some f → Enterable (said m) f.function
 
 -- what holds of a history and of where it leads
 pub record Sound (m : Module) (h : List Made) (s : Sight) : Type 0 where
@@ -49,6 +59,8 @@ pub record Sound (m : Module) (h : List Made) (s : Sight) : Type 0 where
   pub placed : (k : ℕ) (f : Frame) → slice_get s.state.stack k ≡ Some f → (i : Instruction) × (instruction m f ≡ Some i)
   -- the store holds below the memory size what the last made step left there
   pub left : (a : ℕ) → a < (said m).memory → s.entries a ≡ held_after h a
+  -- every function that was entered can be
+  pub within : Within m h s
 
 -- what holds of two histories of one module, each on its own store, with its own memories
 pub record Alike (m : Module) (h h' : List Made) : Type 0 where

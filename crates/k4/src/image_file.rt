@@ -1,5 +1,6 @@
-// The bytes of an image that stands in a file.
-use anyhow::Context;
+// The image that stands in a file.
+use anyhow::{Context, anyhow};
+use module::module::Module;
 use std::fs;
 use std::io::Read;
 
@@ -13,4 +14,14 @@ pub(crate) fn read_image(rt: &HostRuntime, path: &str) -> anyhow::Result<Vec<u8>
         .read_to_end(&mut image)
         .context(format_args!("{path} can't be read"))?;
     Ok(image)
+}
+
+// The module of the image, unless it is refused.
+pub(crate) fn read_module(rt: &HostRuntime, path: &str) -> anyhow::Result<Module> {
+    let image = read_image(rt, path)?;
+    let mut module = Module::new();
+    module
+        .read(image.as_slice())
+        .map_err(|fault| anyhow!("{path} is refused, {fault}"))?;
+    Ok(module)
 }

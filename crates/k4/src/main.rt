@@ -4,18 +4,20 @@
 mod image_file;
 mod judge;
 mod show;
+mod state;
 
 use anyhow::anyhow;
 use desk::desk::Desk;
 use judge::judge_file;
 use show::show_file;
+use state::state_file;
 use std::env;
 use std::io::Read;
 use std::process::ExitCode;
 use words::text::Lines;
 
 const HELP: &str =
-    "usage: k4 replay < SCRIPT\n       k4 judge FILE\n       k4 show FILE\n       k4 help\n\nreplay  does the calls of a script, line by line, and writes what they answered\n        k4 replay < firing.script > firing.transcript\njudge   says whether the module image in FILE is accepted, and if not, why\n        k4 judge kiln.image\nshow    writes what the module says, for a person to read\n        k4 show kiln.image\nhelp    writes this\n        k4 help\n";
+    "usage: k4 replay < SCRIPT\n       k4 judge FILE\n       k4 show FILE\n       k4 state FILE\n       k4 help\n\nreplay  does the calls of a script, line by line, and writes what they answered\n        k4 replay < firing.script > firing.transcript\njudge   says whether the module image in FILE is accepted, and if not, why\n        k4 judge kiln.image\nshow    writes what the module says, for a person to read\n        k4 show kiln.image\nstate   says which functions a run of the module can enter, and what is promised of it\n        k4 state kiln.image\nhelp    writes this\n        k4 help\n";
 
 // Does the script from standard input and writes its transcript.
 fn replay(rt: &HostRuntime) -> anyhow::Result<()> {
@@ -35,6 +37,7 @@ fn on_file(rt: &HostRuntime, command: &str, path: &str) -> anyhow::Result<ExitCo
     match command {
         "judge" => judge_file(rt, path),
         "show" => show_file(rt, path),
+        "state" => state_file(rt, path),
         _ => Err(anyhow!("'{command}' is no command; 'k4 help' lists them")),
     }
 }
@@ -50,7 +53,9 @@ fn on_words(rt: &HostRuntime, command: &str, path: Option<&str>) -> anyhow::Resu
             Ok(ExitCode::SUCCESS)
         }
         (_, Some(path)) => on_file(rt, command, path),
-        ("judge" | "show", None) => Err(anyhow!("'{command}' wants a file: k4 {command} FILE")),
+        ("judge" | "show" | "state", None) => Err(anyhow!(
+            "'{command}' wants a file: k4 {command} FILE"
+        )),
         _ => Err(anyhow!("'{command}' is no command; 'k4 help' lists them")),
     }
 }

@@ -1,6 +1,5 @@
 // `k4 show FILE`: what a module says, for a person to read.
-use crate::image_file::read_image;
-use anyhow::anyhow;
+use crate::image_file::read_module;
 use content::function::Function;
 use content::instruction::Instruction;
 use content::kind::Kind;
@@ -96,11 +95,7 @@ fn show_functions(rt: &HostRuntime, module: &Module) -> anyhow::Result<()> {
 }
 
 pub(crate) fn show_file(rt: &HostRuntime, path: &str) -> anyhow::Result<ExitCode> {
-    let image = read_image(rt, path)?;
-    let mut module = Module::new();
-    if let Err(fault) = module.read(image.as_slice()) {
-        return Err(anyhow!("{path} is refused, {fault}"));
-    }
+    let module = read_module(rt, path)?;
     let lists = module.lists();
     let (memory, depth) = (lists.memory, lists.depth);
     let frames = module.frames();

@@ -1,4 +1,5 @@
 pub mod Values
+pub mod Holding
 pub mod Frames
 pub mod Numbers
 pub mod Events

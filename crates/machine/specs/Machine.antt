@@ -10,10 +10,6 @@ use Rattle.tables.specs.declared.layout.Local.{Local}
 use Rattle.module.specs.Modules.{said, frames, instruction_at, local_at}
 use Rattle.module.specs.declared.module.Module.{Module}
 use Rattle.values.specs.declared.bounds.Bounds.{Bounds}
-use Rattle.values.specs.declared.marked.Marked.{Marked as Mark}
-use Rattle.values.specs.declared.marked.Marked.TheVariants.{Code, Data}
-use Rattle.machine.specs.declared.value.Value.{Value}
-use Rattle.machine.specs.declared.value.Value.TheVariants.{Plain, Marked}
 use Rattle.machine.specs.declared.frame.Frame.{Frame}
 use Rattle.machine.specs.declared.event.Event.{Event}
 use Rattle.machine.specs.declared.event.EventKind.{EventKind}
@@ -24,7 +20,7 @@ use Rattle.machine.specs.declared.refusal.Stop.{Stop}
 use Rattle.machine.specs.declared.refusal.Stop.TheVariants.{Address, NotData, Outside, NotCode, StackFull, HeapFull, NotTaken}
 use Rattle.machine.specs.declared.refusal.Refusal.{Refusal}
 use Rattle.machine.specs.declared.refusal.Refusal.TheVariants.{NotReady as Unready, Stopped}
-use Rattle.machine.specs.Values.{word, with_word, bounds_of, data_in, within, read, wrapped}
+use Rattle.machine.specs.Values.{Mark, Code, Data, Value, Plain, Marked, word, with_word, bounds_of, data_in, within, read, wrapped}
 use Rattle.machine.specs.Frames.{entered, value}
 use Rattle.machine.specs.Events.{event, other}
 
@@ -139,9 +135,8 @@ module _ (m : Module) (s : Sight) (f : Frame) (rest : List Frame) where
   enter k g = cond (nat_lt (length rest + 1) (frames (said m).depth)) (makes (event k g) (entered g ∷ behind f ∷ rest) s.state.heap keeps s.memory) (stops s StackFull)
 
   abbrev pub enter_through : Value → Left
-  enter_through (Plain w) = stops s NotCode
   enter_through (Marked (Code g)) = enter CalledThrough g
-  enter_through (Marked (Data w b)) = stops s NotCode
+  enter_through _ = stops s NotCode
 
   -- the newest frame goes; with the last, the run ends
   abbrev pub leave : List Frame → Left
@@ -163,15 +158,17 @@ module _ (m : Module) (s : Sight) (f : Frame) (rest : List Frame) where
 
   -- moved by n, each of so many words: data stays data, within its bounds
   abbrev pub move : ℕ → Value → ℕ → ℕ → Left
-  move x (Plain w) n words = gives other x (Plain (wrapped (w + n * words)))
-  move x (Marked (Code g)) n words = gives other x (Plain (wrapped (g + n * words)))
   move x (Marked (Data w b)) n words = gives (event Moved n) x (Marked (Data (wrapped (w + n * words)) b))
+  move x v n words = gives other x (Plain (wrapped (word v + n * words)))
+
+  -- a value must be data, and so many words at it lie within its bounds, for what is done with it
+  abbrev pub at_data : Value → ℕ → (ℕ → Bounds → Left) → Left
+  at_data (Marked (Data w b)) words does = cond (within b w words) (does w b) (stops s Outside)
+  at_data _ words does = stops s NotData
 
   -- field k of the record at data, which must lie wholly within the bounds
   abbrev pub field_within : ℕ → Value → ℕ → ℕ → Left
-  field_within x (Plain w) k words = stops s NotData
-  field_within x (Marked (Code g)) k words = stops s NotData
-  field_within x (Marked (Data w b)) k words = cond (within b w words) (gives other x (Marked (Data (wrapped (w + k)) b))) (stops s Outside)
+  field_within x v k words = at_data v words (λ w b. gives other x (Marked (Data (wrapped (w + k)) b)))
 
   abbrev pub field : ℕ → ℕ → ℕ → Left
   field x y k = cond (sensitive m f y) (field_within x (value f y) k (size m f y)) (gives other x (with_word (value f y) (wrapped (word (value f y) + k))))
@@ -182,9 +179,7 @@ module _ (m : Module) (s : Sight) (f : Frame) (rest : List Frame) where
 
   -- a load that the store goes before
   abbrev pub load_within : ℕ → Value → Left
-  load_within x (Plain w) = stops s NotData
-  load_within x (Marked (Code g)) = stops s NotData
-  load_within x (Marked (Data a b)) = cond (within b a 1) (gives other x (read (s.entries a) (slice_index_or s.memory a 0))) (stops s Outside)
+  load_within x v = at_data v 1 (λ a b. gives other x (read (s.entries a) (slice_index_or s.memory a 0)))
 
   abbrev pub load : ℕ → ℕ → Left
   load x y = cond (sensitive m f x) (load_within x (value f y)) (load_plain x (word (value f y)))
@@ -198,9 +193,7 @@ module _ (m : Module) (s : Sight) (f : Frame) (rest : List Frame) where
   keep (Marked v) a = cond (s.taken a) (writes (puts a v) s.memory) (stops s NotTaken)
 
   abbrev pub store_within : Value → Value → Left
-  store_within v (Plain w) = stops s NotData
-  store_within v (Marked (Code g)) = stops s NotData
-  store_within v (Marked (Data a b)) = cond (within b a 1) (keep v a) (stops s Outside)
+  store_within v at = at_data at 1 (λ a b. keep v a)
 
   abbrev pub store : ℕ → ℕ → Left
   store x y = cond (sensitive m f x) (store_within (value f x) (value f y)) (store_plain (word (value f x)) (word (value f y)))

@@ -1,11 +1,11 @@
 -- A value's word and mark.
-use Rattle.std.specs.Prelude.{◌≡◌, ℕ, ◌+◌, ◌%◌, ◌^◌, Bool, true, false, List, ◌++◌, Some, None, Option, ◌&&◌, refl, codes, decimal, nat_lt, nat_le}
+use Rattle.std.specs.Prelude.{◌≡◌, ℕ, ◌+◌, ◌%◌, ◌^◌, Bool, true, List, ◌++◌, Some, None, Option, ◌&&◌, refl, codes, decimal, nat_lt, nat_le}
 use Rattle.values.specs.Written.{written}
 use Rattle.values.specs.declared.bounds.Bounds.{Bounds}
-use Rattle.values.specs.declared.marked.Marked.{Marked as Mark}
-use Rattle.values.specs.declared.marked.Marked.TheVariants.{Code, Data}
-use Rattle.machine.specs.declared.value.Value.{Value}
-use Rattle.machine.specs.declared.value.Value.TheVariants.{Plain, Marked}
+pub use Rattle.values.specs.declared.marked.Marked.{Marked as Mark}
+pub use Rattle.values.specs.declared.marked.Marked.TheVariants.{Code, Data}
+pub use Rattle.machine.specs.declared.value.Value.{Value}
+pub use Rattle.machine.specs.declared.value.Value.TheVariants.{Plain, Marked}
 use Rattle.std.proofs.lemmas.Bool.{ltb-true, leb-true}
 
 abbrev pub word : Value → ℕ
@@ -27,8 +27,7 @@ with_word (Marked (Data w b)) n = Marked (Data n b)
 -- the bounds from low to high, if low is below high and high at most 65,536
 unfoldable pub bounds_if : (low high : ℕ) (l h : Bool) → nat_lt low high ≡ l → nat_le high 65536 ≡ h → Option Bounds
 bounds_if low high true true p q = Some (record { low = low; high = high; some = ltb-true low high p; inside = leb-true high 65536 q })
-bounds_if low high true false p q = None
-bounds_if low high false h p q = None
+bounds_if low high _ _ p q = None
 
 unfoldable pub bounds_of : ℕ → ℕ → Option Bounds
 bounds_of low high = bounds_if low high (nat_lt low high) (nat_le high 65536) refl refl

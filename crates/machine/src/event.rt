@@ -53,6 +53,10 @@ pub const OTHER: Event = Event {
     word: 0,
 };
 
+const _: () = prove!(OTHER.kind as u32 == EventKind::Other as u32);
+
+const _: () = prove!(OTHER.word == 0);
+
 impl fmt::Display for Event {
     ghost output = { λ e. Some (event_text e) };
 

@@ -2,6 +2,8 @@
 ghost use Rattle.std.specs.Prelude.{◌≡◌};
 ghost use Rattle.machine.specs.Frames.{entered, value};
 
+use crate::held::Held;
+use crate::local_number::LocalNumber;
 use crate::value::Value;
 
 #[derive(Clone, Copy)]
@@ -9,7 +11,7 @@ pub struct Frame {
     pub function: u32,
     // The place of its next instruction, counted within the function.
     pub place: u32,
-    pub locals: [Value; 8],
+    pub locals: [Held; 8],
 }
 
 impl Frame {
@@ -20,7 +22,7 @@ impl Frame {
         Frame {
             function,
             place: 0,
-            locals: [Value::Plain(0); 8],
+            locals: [Held::of(Value::Plain(0)); 8],
         }
     }
 
@@ -28,9 +30,16 @@ impl Frame {
     pub fn local(&self, x: u32) -> Value
         ensures { result ≡ value self.now x }
     {
-        self.locals
-            .get(x as usize)
-            .copied()
-            .unwrap_or(Value::Plain(0))
+        match self.locals.get(x as usize) {
+            Some(held) => held.value(),
+            None => Value::Plain(0),
+        }
+    }
+
+    // One that is there, as it is held.
+    pub fn held(&self, number: LocalNumber) -> Held
+        ensures { result ≡ value self.now number.x }
+    {
+        self.locals[number.x as usize]
     }
 }

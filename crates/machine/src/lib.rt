@@ -4,6 +4,8 @@
 pub mod event;
 pub mod frame;
 pub mod gone;
+pub mod held;
+pub mod local_number;
 pub mod refusal;
 pub mod status;
 pub mod value;

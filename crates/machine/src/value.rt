@@ -15,7 +15,7 @@ pub enum Value {
 
 impl Value {
     // Data at this word; plain where these are no bounds.
-    #[tactic(auto, using(crate::proofs::Bounding::bounded, crate::proofs::Bounding::unbounded))]
+    #[tactic(auto, using(crate::proofs::Bounding::bounds_same, crate::proofs::Bounding::unbounded))]
     pub fn data(word: u32, low: u32, high: u32) -> Value
         ensures { result ≡ data_in (bounds_of low high) word }
     {

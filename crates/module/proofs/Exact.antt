@@ -13,7 +13,8 @@ use Rattle.header.specs.declared.fault.HeaderFault.TheVariants.{Short, Version, 
 use Rattle.header.specs.declared.counts.Counts.{Counts}
 use Rattle.header.specs.Header.{Headed, ranged, counts_in}
 use Rattle.parts.specs.Content.{Content}
-use Rattle.parts.specs.Holding.{Listed, Holds, stopped, meaningless}
+use Rattle.std.specs.Result.{result_err}
+use Rattle.parts.specs.Holding.{Listed, Holds, meaningless}
 use Rattle.rules.specs.declared.rule.Rule.{Rule}
 use Rattle.rules.specs.declared.rule.Rule.TheVariants.{Names, Types}
 use Rattle.rules.specs.declared.fault.RuleFault.TheVariants.{Meaningless, Unnamed, Mistyped}
@@ -45,12 +46,12 @@ same_content s c d p q =
 all_mean : (s : List ℕ) (n : Counts) (c : Content) → Listed s n c → (l : ListOf) → meaningless s n l ≡ None
 all_mean s n c p =
     each_list (λ l. meaningless s n l ≡ None)
-    (ap stopped p.types_are)
-    (ap stopped p.fields_are)
-    (ap stopped p.globals_are)
-    (ap stopped p.locals_are)
-    (ap stopped p.functions_are)
-    (ap stopped p.code_is)
+    (ap result_err p.types_are)
+    (ap result_err p.fields_are)
+    (ap result_err p.globals_are)
+    (ap result_err p.locals_are)
+    (ap result_err p.functions_are)
+    (ap result_err p.code_is)
 
 unlike : (k : ℕ) (o : Option ℕ) → o ≡ Some k → o ≡ None → ⊥
 unlike k o a b = grind arith

@@ -2,4 +2,6 @@ pub mod Following
 pub mod Exact
 pub mod Again
 mod Fresh
+pub mod Places
 pub mod Locals
+pub mod Functions

@@ -5,7 +5,7 @@ use Rattle.content.specs.declared.instruction.Instruction.{Instruction}
 use Rattle.content.specs.declared.instruction.Instruction.TheVariants.{Return}
 use Rattle.std.specs.List.{slice_get}
 use Rattle.parts.specs.Content.{Content, content}
-use Rattle.sensitivity.specs.Sensitive.{Links, Sensitive}
+use Rattle.sensitivity.specs.Sensitive.{First, Links, Sensitive}
 use Rattle.tables.specs.Tables.{layout_at, plain}
 use Rattle.tables.specs.declared.layout.Local.{Local}
 use Rattle.writing.specs.Image.{image_of}
@@ -22,6 +22,10 @@ image m = image_of (said m)
 -- a link leads from type t to the sensitive type j
 abbrev pub SensitiveLink : Content → ℕ → ℕ → Type 0
 SensitiveLink c t j = Links c.fields (slice_get c.types t) j × Sensitive c.types c.fields j
+
+-- no field of the record t in front of the one that leads to j leads to a sensitive type
+abbrev pub FirstLink : Content → ℕ → ℕ → Type 0
+FirstLink c t j = First c.fields (Sensitive c.types c.fields) (slice_get c.types t) j
 
 -- no link leads from type t to a sensitive type
 abbrev pub NoLink : Content → ℕ → Type 0

@@ -1,9 +1,10 @@
 // What a module can be asked.
 ghost use Rattle.std.specs.Prelude.{◌≡◌, ◌+◌, ◌<◌, ◌≤◌, length, take, Decides, MatchOption};
+ghost use Rattle.std.specs.Option.{IfSome};
 ghost use Rattle.parts.specs.Content.{viewed};
 ghost use Rattle.sensitivity.specs.Sensitive.{Sensitive};
 ghost use Rattle.tables.specs.Tables.{words};
-ghost use Rattle.module.specs.Modules.{said, frames, NoLink, SensitiveLink};
+ghost use Rattle.module.specs.Modules.{said, frames, FirstLink, NoLink, SensitiveLink};
 
 use crate::module::Module;
 use parts::lists::Lists;
@@ -36,6 +37,7 @@ impl Module {
     }
 
     // Where the heap begins: behind the globals.
+    #[tactic(auto, using(crate::proofs::Places::heap_there))]
     pub fn heap(&self) -> u32
         ensures { result ≡ words (said self.now).types (said self.now).globals }
     {
@@ -43,6 +45,7 @@ impl Module {
     }
 
     // Where a global lies.
+    #[tactic(auto, using(crate::proofs::Places::low_there, crate::proofs::Places::high_there))]
     pub fn span(&self, global: u32) -> Option<Span>
         ensures { MatchOption result (length (said self.now).globals ≤ global) (λ s. (s.low ≡ words (said self.now).types (take global (said self.now).globals)) × (s.high ≡ words (said self.now).types (take (global + 1) (said self.now).globals))) }
     {
@@ -55,9 +58,10 @@ impl Module {
         }
     }
 
-    // The end of a link from type `t` that leads on to void or function.
+    // The end of the first link from type `t` that leads on to void or function.
     pub fn sensitive_link(&self, t: u32) -> Option<u32>
-        ensures { MatchOption result (NoLink (said self.now) t) (λ j. SensitiveLink (said self.now) t j) }
+        ensures link { MatchOption result (NoLink (said self.now) t) (λ j. SensitiveLink (said self.now) t j) }
+        ensures first { IfSome result (λ j. FirstLink (said self.now) t j) }
     {
         next_link(&self.parts, &self.sensitive, t)
     }

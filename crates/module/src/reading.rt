@@ -35,7 +35,9 @@ fn check_image(image: &[u8]) -> Result<Checked, ModuleFault>
 }
 
 fn read_module(image: &[u8]) -> Result<Module, ModuleFault>
-    ensures { MatchResult result (λ m. Follows image.now (said m) × (image.now ≡ image_of m)) (λ f. Refused image.now f) }
+    ensures answer { MatchResult result (λ m. Follows image.now (said m) × (image.now ≡ image_of m)) (λ f. Refused image.now f) }
+    ensures exact { (c : Content) → Follows image.now c → MatchResult result (λ m. said m ≡ c) (λ _. ⊥) }
+    ensures again { (m : Module) → image.now ≡ image_of m → MatchResult result (λ n. ∥ said n ≡ said m ∥₁) (λ _. ⊥) }
 {
     let Checked { parts, places } = check_image(image)?;
     let sensitive = sensitive_types(&parts);
@@ -65,6 +67,7 @@ const FRESH: &[u8; 104] = b"\x01\0\0\0\x01\0\0\0\x01\0\0\0\
 
 impl Module {
     // The module before any reading: one number type, and function 0 with a lone return.
+    #[tactic(auto, using(crate::proofs::Fresh::fresh_follows))]
     pub fn new() -> Module
         ensures { said result ≡ fresh }
     {

@@ -1,5 +1,5 @@
 // What a run asks of its module at each step.
-ghost use Rattle.std.specs.Prelude.{◌≡◌, ◌<◌, Some};
+ghost use Rattle.std.specs.Prelude.{◌≡◌, ℕ, ◌+◌, ◌<◌, ◌≤◌, Some, length};
 ghost use Rattle.std.specs.Option.{IfSome};
 ghost use Rattle.parts.specs.Content.{viewed};
 ghost use Rattle.module.specs.Modules.{said, in_function, instruction_at, local_at};
@@ -10,6 +10,13 @@ use content::instruction::Instruction;
 use parts::lists::Lists;
 use rules::lookup::item_at;
 use tables::layout::Local;
+
+const NO_FUNCTION: Function = Function {
+    first: 0,
+    count: 0,
+    first_local: 0,
+    locals: 0,
+};
 
 fn in_function(lists: &Lists, function: &Function, place: u32) -> Option<Instruction>
     ensures { result ≡ in_function (viewed lists.now) (Some function.now) place }
@@ -29,14 +36,31 @@ impl Module {
         self.parts.header().memory()
     }
 
-    // The instruction at a place of a function, if there are both.
-    pub fn instruction(&self, function: u32, place: u32) -> Option<Instruction>
-        ensures value { result ≡ instruction_at (said self.now) function place }
+    // Function `k`; one of no instructions where there is none.
+    #[tactic(auto, using(crate::proofs::Functions::no_instruction, crate::proofs::Functions::these_instructions))]
+    pub fn function(&self, k: u32) -> Function
+        ensures instructions { (place : ℕ) → in_function (said self.now) (Some result) place ≡ instruction_at (said self.now) k place }
+        ensures fits { result.first + result.count ≤ length (said self.now).code }
+    {
+        match item_at(self.lists().functions, k as usize) {
+            Some(function) => function,
+            None => NO_FUNCTION,
+        }
+    }
+
+    // The instruction at a place of a function, if there is one.
+    pub fn instruction_in(&self, function: &Function, place: u32) -> Option<Instruction>
+        ensures value { result ≡ in_function (said self.now) (Some function.now) place }
         ensures near { IfSome result (λ _. place < 1024) }
     {
-        let lists = self.lists();
-        let function = lists.functions.get(function as usize)?;
-        in_function(&lists, function, place)
+        in_function(&self.lists(), function, place)
+    }
+
+    // The instruction at a place of function `k`, if there are both.
+    pub fn instruction(&self, k: u32, place: u32) -> Option<Instruction>
+        ensures { result ≡ instruction_at (said self.now) k place }
+    {
+        self.instruction_in(&self.function(k), place)
     }
 
     // What has to be known of local `x` of a function: nothing where there is no such local or function.
@@ -49,8 +73,7 @@ impl Module {
             size: None,
         };
         let k = function as usize;
-        // Not by `get` on the layouts: there are more of them than functions.
-        if k < self.parts.header().counts().functions {
+        if k < self.layouts.len() {
             item_at(&self.layouts[k], x as usize).unwrap_or(plain)
         } else {
             plain

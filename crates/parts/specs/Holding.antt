@@ -1,4 +1,5 @@
 use Rattle.std.specs.Prelude.{◌≡◌, ℕ, ◌<◌, List, take, drop, Some, None, Ok, Err, Option, Result}
+use Rattle.std.specs.Result.{result_err}
 use Rattle.records.specs.Records.{records}
 use Rattle.records.specs.Lists.{list_number}
 use Rattle.records.specs.declared.list.ListOf.{ListOf}
@@ -18,18 +19,14 @@ pub record Listed (s : List ℕ) (n : Counts) (c : Content) : Type 0 where
   pub functions_are : records function_from 4 n.functions (drop (functions_at n) s) ≡ Ok c.functions
   pub code_is : records instruction_from 4 n.code (drop (code_at n) s) ≡ Ok c.code
 
-abbrev pub stopped : {R : Type 0} → Result (List R) ℕ → Option ℕ
-stopped (Ok _) = None
-stopped (Err k) = Some k
-
 -- the first record of a list that means nothing
 abbrev pub meaningless : List ℕ → Counts → ListOf → Option ℕ
-meaningless s n Types = stopped (records kind_from 3 n.types (drop 60 s))
-meaningless s n Fields = stopped (records typed_from 1 n.fields (drop (fields_at n) s))
-meaningless s n Globals = stopped (records global_from 2 n.globals (drop (globals_at n) s))
-meaningless s n Locals = stopped (records typed_from 1 n.locals (drop (locals_at n) s))
-meaningless s n Functions = stopped (records function_from 4 n.functions (drop (functions_at n) s))
-meaningless s n Code = stopped (records instruction_from 4 n.code (drop (code_at n) s))
+meaningless s n Types = result_err (records kind_from 3 n.types (drop 60 s))
+meaningless s n Fields = result_err (records typed_from 1 n.fields (drop (fields_at n) s))
+meaningless s n Globals = result_err (records global_from 2 n.globals (drop (globals_at n) s))
+meaningless s n Locals = result_err (records typed_from 1 n.locals (drop (locals_at n) s))
+meaningless s n Functions = result_err (records function_from 4 n.functions (drop (functions_at n) s))
+meaningless s n Code = result_err (records instruction_from 4 n.code (drop (code_at n) s))
 
 -- f names the first record of the first list in which one means nothing
 pub record FirstMeaningless (s : List ℕ) (n : Counts) (f : RecordFault) : Type 0 where

@@ -19,6 +19,7 @@ fn read_one<R: Record<N>, const N: usize>(
 }
 
 // Reads as many records as `out` has places from the front of `bytes`.
+#[tactic(auto, using(crate::proofs::Runs::begins, crate::proofs::Runs::goes_on, crate::proofs::Runs::ends, crate::proofs::Runs::stops, crate::proofs::Runs::leaves))]
 pub fn fill<R: Record<N>, const N: usize>(
     out: &mut [R],
     bytes: &[u8],

@@ -7,7 +7,7 @@ use stores::store::NotTaken;
 use values::marked::Marked;
 
 // What a store answered, or what was done in its place.
-#[derive(Clone, Copy, PartialEq, Eq, Debug)]
+#[derive(Clone, Copy)]
 pub enum Answer {
     // A new store stands.
     Made,

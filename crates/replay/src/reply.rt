@@ -11,7 +11,7 @@ use std::fmt;
 use words::fault::Fault;
 
 // An enum and no `Result`: what is wrong with a line is no failure of the call, and all three are printed.
-#[derive(Clone, Copy, PartialEq, Eq, Debug)]
+#[derive(Clone, Copy)]
 pub enum Reply {
     Silent,
     Answered(Answer),

@@ -4,7 +4,7 @@ use Rattle.std.specs.Option.{option_map, option_or}
 use Rattle.records.specs.Lists.{list_number}
 use Rattle.records.specs.declared.list.ListOf.{ListOf}
 use Rattle.records.specs.declared.list.ListOf.TheVariants.{Types, Fields, Globals, Locals, Functions, Code}
-use Rattle.records.specs.declared.record.RecordFault.{RecordFault}
+use Rattle.records.proofs.Lists.{each_list}
 use Rattle.content.specs.declared.function.Function.{Function}
 use Rattle.parts.specs.Content.{Content}
 use Rattle.rules.specs.declared.rule.Rule.{Rule}
@@ -53,28 +53,6 @@ module _ (r : Rule) (c : Content) where
   kept_unbroken h Functions = none_in (function_keeps r c) c.functions h.functions
   kept_unbroken h Code = none_each c.functions (function_unbroken h)
 
-  module _ (n0 : broken r c Types ≡ None) (n1 : broken r c Fields ≡ None) (n2 : broken r c Globals ≡ None) (n3 : broken r c Locals ≡ None) (n4 : broken r c Functions ≡ None) where
-    before_code : (l : ListOf) → list_number l < 5 → broken r c l ≡ None
-    before_code Types h = n0
-    before_code Fields h = n1
-    before_code Globals h = n2
-    before_code Locals h = n3
-    before_code Functions h = n4
-    before_code Code h = absurd (omega arith)
-
-    all : broken r c Code ≡ None → Unbroken r c
-    all n5 Types = n0
-    all n5 Fields = n1
-    all n5 Globals = n2
-    all n5 Locals = n3
-    all n5 Functions = n4
-    all n5 Code = n5
-
-    -- where the five first lists keep the rule, the functions' instructions decide
-    pub by_functions : {Y : Type 0} (a : Result Y RecordFault) → Judged (broken r c Code) Code a → MatchResult a (λ _. Kept r c) (λ f. FirstBroken r c f)
-    by_functions (Ok y) h = unbroken_kept (all h)
-    by_functions (Err f) h =
-        record {
-          here = ap (broken r c) h.0 ∙ h.1;
-          earlier = λ l k. before_code l (subst (λ g. list_number l < list_number g) h.0 k);
-        }
+  -- where no list has a record that breaks the rule
+  pub all_kept : broken r c Types ≡ None → broken r c Fields ≡ None → broken r c Globals ≡ None → broken r c Locals ≡ None → broken r c Functions ≡ None → broken r c Code ≡ None → Kept r c
+  all_kept t f g l u o = unbroken_kept (each_list (λ k. broken r c k ≡ None) t f g l u o)

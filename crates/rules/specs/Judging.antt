@@ -1,6 +1,6 @@
 use Rattle.std.specs.Prelude.{◌≡◌, ℕ, ◌+◌, ◌<◌, Bool, true, not, List, [], ◌∷◌, Some, None, Ok, Err, Option, Result, position}
 use Rattle.std.specs.List.{slice_get, range_with_len}
-use Rattle.std.specs.Option.{option_map, option_or}
+use Rattle.std.specs.Option.{option_map, option_map_or, option_or}
 use Rattle.records.specs.Lists.{list_number}
 use Rattle.records.specs.declared.list.ListOf.{ListOf}
 use Rattle.records.specs.declared.list.ListOf.TheVariants as list
@@ -32,8 +32,7 @@ first_in test rs = position (λ r. not (test r)) rs
 
 -- what isn't there breaks nothing
 abbrev pub holds : {R : Type 0} → (R → Bool) → Option R → Bool
-holds test None = true
-holds test (Some r) = test r
+holds test r = option_map_or test r true
 
 -- the instruction at place i of function f keeps the rule
 abbrev pub place_keeps : Rule → Content → Function → ℕ → Bool

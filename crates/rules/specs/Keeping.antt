@@ -14,12 +14,9 @@ use Rattle.rules.specs.Types.{atomic, sized, number, function, pointee, global_t
 
 -- a pointer names a type, a record a range of fields
 abbrev pub kind_keeps : Rule → Content → Kind → Bool
-kind_keeps Names c kind.Number = true
-kind_keeps Names c kind.Void = true
-kind_keeps Names c kind.Function = true
 kind_keeps Names c (kind.Pointer to) = nat_lt to (length c.types)
 kind_keeps Names c (kind.Fields first count) = nat_le (first + count) (length c.fields)
-kind_keeps Types c t = true
+kind_keeps _ c _ = true
 
 -- fields and locals name a type, which is atomic
 abbrev pub typed_keeps : Rule → Content → Typed → Bool
@@ -88,23 +85,9 @@ typed c f op.Return = true
 
 -- the instructions that may stand last
 abbrev pub ends : Instruction → Bool
-ends (op.Set x n) = false
-ends (op.Add x y z) = false
-ends (op.Subtract x y z) = false
-ends (op.Less x y z) = false
-ends (op.Cast x y) = false
 ends (op.Jump to) = true
-ends (op.Branch x to) = false
-ends (op.Function x g) = false
-ends (op.Global x g) = false
-ends (op.Allocate x y) = false
-ends (op.Move x y z) = false
-ends (op.Field x y k) = false
-ends (op.Load x y) = false
-ends (op.Store x y) = false
-ends (op.Call g) = false
-ends (op.CallThrough x) = false
 ends op.Return = true
+ends _ = false
 
 -- the instruction at place i of function f
 abbrev pub instruction_keeps : Rule → Content → Function → ℕ → Instruction → Bool

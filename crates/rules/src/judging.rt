@@ -76,6 +76,7 @@ impl<'a> Ruling<'a> {
     }
 }
 
+#[tactic(auto, using(crate::proofs::Keeps::all_kept))]
 fn judge(rule: Rule, lists: &Lists) -> Result<(), RecordFault>
     ensures { MatchResult result (λ _. Kept rule (viewed lists.now)) (λ f. FirstBroken rule (viewed lists.now) f) }
 {

@@ -1,3 +1,6 @@
 pub mod Beyond
 pub mod Progress
 pub mod Clear
+pub mod Turns
+pub mod Staying
+pub mod Locals

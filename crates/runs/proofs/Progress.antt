@@ -2,6 +2,7 @@
 use Rattle.std.specs.Prelude.{◌≡◌, ℕ, ◌+◌, ◌<◌, ◌≤◌, List, [], ◌∷◌, ◌++◌, length, map, take, drop, slice_set, false, Ok, Err, refl}
 use Rattle.std.proofs.Common.{arith, ap, sym, subst, ◌∙◌}
 use Rattle.std.proofs.lemmas.List.{take_more_set, drop-set-lt, length-set, length-append, map-append, drop-drop}
+use Rattle.module.specs.Modules.{said}
 use Rattle.module.specs.declared.module.Module.{Module}
 use Rattle.machine.specs.declared.frame.Frame.{Frame}
 use Rattle.machine.specs.declared.event.Event.{Event}
@@ -58,12 +59,9 @@ pub went_full : (m : Module) (s : Sight) (events : List Event) (n : ℕ) (s' : S
     → Ready m s → Progress m s events n s' events' → length events' ≤ n → over s'.state ≡ false → Went m s events (record { made = n; came = Full }) s' events'
 went_full m s events n s' events' ready p le on = went m s events n s' events' Full s' ready p (omega (arith, le, p.room, p.long), on, refl)
 
--- the last step was made, and no frame stands
-pub went_ended : (m m' : Module) (s : Sight) (events : List Event) (n : ℕ) (s' : Sight) (events' : List Event) (e : Event) (s'' : Sight)
-    → m' ≡ m → Ready m s → Progress m s events n s' events' → n < length events' → Step m' s' (Ok e) s'' → length s''.state.stack ≡ 0
-    → Went m s events (record { made = n + 1; came = Ended }) s'' (slice_set events' n e)
-went_ended m m' s events n s' events' e s'' same ready p lt q empty =
-    went m s events (n + 1) s'' (slice_set events' n e) Ended s'' ready (one_more m m' s events n s' events' e s'' same p lt q) (none_stand s''.state.stack empty, refl)
+pub went_ended : (m : Module) (s : Sight) (events : List Event) (n : ℕ) (s' : Sight) (events' : List Event)
+    → Ready m s → Progress m s events n s' events' → length s'.state.stack ≡ 0 → Went m s events (record { made = n; came = Ended }) s' events'
+went_ended m s events n s' events' ready p empty = went m s events n s' events' Ended s' ready p (none_stand s'.state.stack empty, refl)
 
 pub went_stopped : (m m' : Module) (s : Sight) (events : List Event) (n : ℕ) (s' : Sight) (events' : List Event) (why : Stop) (s'' : Sight)
     → m' ≡ m → Ready m s → Progress m s events n s' events' → n < length events' → Step m' s' (Err (AsStop why)) s''
@@ -71,5 +69,6 @@ pub went_stopped : (m m' : Module) (s : Sight) (events : List Event) (n : ℕ) (
 went_stopped m m' s events n s' events' why s'' same ready p lt q =
     went m s events n s' events' (Stopped why) s'' ready p (omega (arith, lt, p.long), subst (λ (x : Module). Step x s' (Err (AsStop why)) s'') same q)
 
-pub ready_still : (m m' : Module) (s : Sight) → m' ≡ m → Ready m s → Ready m' s
-ready_still m m' s same r = subst (λ (x : Module). Ready x s) (sym same) r
+-- a run that wasn't stopped, with frames that stand
+pub ready_on : (m m' : Module) (s : Sight) → m' ≡ m → s.state.stopped ≡ false → 0 < length s.state.stack → length s.memory ≡ (said m).memory → Ready m' s
+ready_on m m' s same on stands sized = subst (λ (x : Module). Ready x s) (sym same) (grind arith, sized)

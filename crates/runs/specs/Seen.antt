@@ -9,6 +9,8 @@ use Rattle.machine.specs.declared.refusal.Refusal.{Refusal}
 use Rattle.machine.specs.declared.refusal.Refusal.TheVariants.{Stopped}
 use Rattle.machine.specs.Machine.{Entries, Taken, Sight, Left, Does, stops}
 use Rattle.stack.specs.Stack.{newest}
+use Rattle.runs.specs.declared.entered.Entered.{Entered}
+use Rattle.runs.specs.Entering.{Knows}
 use Rattle.runs.specs.declared.run.Run.{Run}
 
 -- a stop is answered as a refusal
@@ -20,6 +22,11 @@ answer (Err why) = Err (Stopped why)
 abbrev pub Tries : Sight → Left → Result Event Stop → Sight → Type 0
 Tries s l (Ok e) s' = Does s l (Ok e) s'
 Tries s l (Err why) s' = (l ≡ stops s why) × (s' ≡ s)
+
+-- the function of the newest frame was looked up
+pub record IsNewest {S : Type 0} (r : Run S) (e : Entered) : Type 0 where
+  pub known : Knows r.module e
+  pub number : e.number ≡ (newest r.stack).function
 
 module _ {S : Type 0} (entry : S → Entries) (taken : S → Taken) where
   abbrev pub seen : Run S → List ℕ → Sight

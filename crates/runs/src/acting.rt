@@ -4,6 +4,7 @@ ghost use Rattle.machine.specs.Machine.{at_place, behind, given};
 ghost use Rattle.stack.specs.Stack.{newest};
 
 use crate::run::Run;
+use machine::local_number::LocalNumber;
 use machine::value::Value;
 
 impl<S> Run<S> {
@@ -29,6 +30,7 @@ impl<S> Run<S> {
     pub(crate) fn give(&mut self, x: u32, v: Value)
         requires stands { 0 < length self.old.stack }
         requires near { (newest self.old.stack).place < 1024 }
+        requires below { x < 8 }
         ensures { self.new ≡ record self.old { stack = given self.old.module (newest self.old.stack) x v ∷ drop 1 self.old.stack } }
     {
         let kept = if self.is_sensitive(x) {
@@ -36,7 +38,7 @@ impl<S> Run<S> {
         } else {
             Value::Plain(v.word())
         };
-        self.stack.set_local(x, kept);
+        self.stack.set_local(LocalNumber { x }, kept);
         self.pass();
     }
 }

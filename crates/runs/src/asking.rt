@@ -1,24 +1,27 @@
 // What an instruction asks of the newest frame.
-ghost use Rattle.std.specs.Prelude.{◌≡◌};
+ghost use Rattle.std.specs.Prelude.{◌≡◌, ◌<◌};
 ghost use Rattle.machine.specs.Frames.{value};
 ghost use Rattle.machine.specs.Values.{word};
 ghost use Rattle.machine.specs.Machine.{sensitive, size};
 ghost use Rattle.stack.specs.Stack.{newest};
 
 use crate::run::Run;
+use machine::local_number::LocalNumber;
 use machine::value::Value;
 
 impl<S> Run<S> {
     pub(crate) fn value(&self, x: u32) -> Value
+        requires below { x < 8 }
         ensures { result ≡ value (newest self.now.stack) x }
     {
-        self.stack.local(x)
+        self.stack.local(LocalNumber { x })
     }
 
     pub(crate) fn word(&self, x: u32) -> u32
+        requires below { x < 8 }
         ensures { result ≡ word (value (newest self.now.stack) x) }
     {
-        self.value(x).word()
+        self.stack.word(LocalNumber { x })
     }
 
     pub(crate) fn is_sensitive(&self, x: u32) -> bool

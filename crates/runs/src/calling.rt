@@ -1,5 +1,5 @@
 // Where a run goes on: jumps, branches, calls and returns.
-ghost use Rattle.std.specs.Prelude.{Ok};
+ghost use Rattle.std.specs.Prelude.{Ok, ◌<◌};
 ghost use Rattle.machine.specs.Values.{word};
 ghost use Rattle.machine.specs.Events.{other};
 ghost use Rattle.machine.specs.Frames.{value};
@@ -24,6 +24,7 @@ impl<S: Store<Entry = Marked>> Run<S> {
 
     pub(crate) fn branch(&mut self, memory: &[u32], x: u32, to: u32) -> Event
         requires going { Going S.entry S.taken self.old memory.now }
+        requires below { x < 8 }
         ensures { Tried S.entry S.taken S.kept (λ m s f rest. branch m s f rest (word (value f x)) to) self.old memory.now (Ok result) self.new memory.now }
     {
         if self.word(x) == 0 {
@@ -64,6 +65,7 @@ impl<S: Store<Entry = Marked>> Run<S> {
 
     pub(crate) fn enter_through(&mut self, memory: &[u32], x: u32) -> Result<Event, Stop>
         requires going { Going S.entry S.taken self.old memory.now }
+        requires below { x < 8 }
         ensures { Tried S.entry S.taken S.kept (λ m s f rest. enter_through m s f rest (value f x)) self.old memory.now result self.new memory.now }
     {
         let Value::Marked(Marked::Code(function)) = self.value(x) else {

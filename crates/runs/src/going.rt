@@ -12,7 +12,7 @@ use values::marked::Marked;
 
 impl<S: Store<Entry = Marked>> Run<S> {
     // Writes the events from the list's first place on, and leaves the places behind. Refused as a step is, also with an empty list.
-    #[tactic(auto, using(crate::proofs::Progress::at_start, crate::proofs::Progress::went_full, crate::proofs::Progress::went_stopped, crate::proofs::Progress::ready_still))]
+    #[tactic(auto, using(crate::proofs::Progress::at_start, crate::proofs::Progress::one_more, crate::proofs::Progress::went_full, crate::proofs::Progress::went_ended, crate::proofs::Progress::went_stopped, crate::proofs::Progress::ready_on))]
     pub fn go(&mut self, memory: &mut [u32], events: &mut [Event]) -> Result<Gone, NotReady>
         ensures module { self.new.module ≡ self.old.module }
         ensures kept { S.kept self.old.store self.new.store }
@@ -20,8 +20,9 @@ impl<S: Store<Entry = Marked>> Run<S> {
     {
         self.ready(memory)?;
         let mut made = 0;
-        while made < events.len() {
-            match self.make(memory) {
+        let mut entered = self.entered();
+        while made < events.len() && self.stack.len() > 0 {
+            match self.make_on(memory, &mut entered) {
                 Ok(event) => events[made] = event,
                 Err(stop) => {
                     return Ok(Gone {
@@ -31,16 +32,12 @@ impl<S: Store<Entry = Marked>> Run<S> {
                 }
             }
             made += 1;
-            if self.stack.len() == 0 {
-                return Ok(Gone {
-                    made,
-                    came: Came::Ended,
-                });
-            }
         }
-        Ok(Gone {
-            made,
-            came: Came::Full,
-        })
+        let came = if self.stack.len() == 0 {
+            Came::Ended
+        } else {
+            Came::Full
+        };
+        Ok(Gone { made, came })
     }
 }

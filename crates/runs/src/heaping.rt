@@ -1,5 +1,5 @@
 // Allocation: the first words that the heap has left.
-ghost use Rattle.std.specs.Prelude.{◌*◌};
+ghost use Rattle.std.specs.Prelude.{◌*◌, ◌<◌};
 ghost use Rattle.machine.specs.Frames.{value};
 ghost use Rattle.machine.specs.Values.{word};
 ghost use Rattle.machine.specs.Machine.{allocate, size};
@@ -15,6 +15,7 @@ use values::marked::Marked;
 impl<S: Store<Entry = Marked>> Run<S> {
     pub(crate) fn allocate(&mut self, memory: &[u32], x: u32, y: u32) -> Result<Event, Stop>
         requires going { Going S.entry S.taken self.old memory.now }
+        requires below { (x < 8) × (y < 8) }
         ensures { Tried S.entry S.taken S.kept (λ m s f rest. allocate m s f rest x (word (value f y)) (word (value f y) * size m f x)) self.old memory.now result self.new memory.now }
     {
         let n = self.word(y);

@@ -6,6 +6,7 @@ mod asking;
 pub mod beginning;
 mod calling;
 mod computing;
+mod entered;
 pub mod going;
 mod heaping;
 mod performing;

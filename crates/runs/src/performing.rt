@@ -1,5 +1,6 @@
 // The instruction whose turn it is.
 ghost use Rattle.machine.specs.Machine.{make};
+ghost use Rattle.runs.specs.Entering.{LocalsBelow};
 ghost use Rattle.runs.specs.Seen.{Going, Tried};
 
 use crate::run::Run;
@@ -17,6 +18,7 @@ impl<S: Store<Entry = Marked>> Run<S> {
         instruction: Instruction,
     ) -> Result<Event, Stop>
         requires going { Going S.entry S.taken self.old memory.old }
+        requires below { LocalsBelow instruction }
         ensures { Tried S.entry S.taken S.kept (λ m s f rest. make m s f rest instruction) self.old memory.old result self.new memory.new }
     {
         match instruction {

@@ -1,5 +1,5 @@
 // Addresses: of globals, moved, and of fields of records.
-ghost use Rattle.std.specs.Prelude.{◌≡◌, ◌+◌, Ok};
+ghost use Rattle.std.specs.Prelude.{◌≡◌, ◌+◌, Ok, ◌<◌};
 ghost use Rattle.machine.specs.Frames.{value};
 ghost use Rattle.machine.specs.Values.{bounds_of, data_in, word, with_word, within, wrapped};
 ghost use Rattle.content.specs.declared.instruction.Instruction.TheVariants.{Global};
@@ -42,6 +42,7 @@ pub(crate) fn within(bounds: Bounds, word: u32, words: u32) -> bool
 
 impl<S: Store<Entry = Marked>> Run<S> {
     // The address of all of a global.
+    #[tactic(auto, using(crate::proofs::Beyond::nothing_beyond))]
     fn global(&self, global: u32) -> Value
         ensures { result ≡ data_in (bounds_of (start_of (said self.now.module).types (said self.now.module).globals global) (start_of (said self.now.module).types (said self.now.module).globals (global + 1))) (start_of (said self.now.module).types (said self.now.module).globals global) }
     {
@@ -54,6 +55,7 @@ impl<S: Store<Entry = Marked>> Run<S> {
     // The address of field k of the record at y.
     pub(crate) fn field(&mut self, memory: &[u32], x: u32, y: u32, k: u32) -> Result<Event, Stop>
         requires going { Going S.entry S.taken self.old memory.now }
+        requires below { (x < 8) × (y < 8) }
         ensures { Tried S.entry S.taken S.kept (λ m s f rest. field m s f rest x y k) self.old memory.now result self.new memory.now }
     {
         if !self.is_sensitive(y) {
@@ -75,6 +77,7 @@ impl<S: Store<Entry = Marked>> Run<S> {
 
     pub(crate) fn point_at(&mut self, memory: &[u32], x: u32, global: u32) -> Event
         requires going { Going S.entry S.taken self.old memory.now }
+        requires below { x < 8 }
         ensures { Tried S.entry S.taken S.kept (λ m s f rest. make m s f rest (Global x global)) self.old memory.now (Ok result) self.new memory.now }
     {
         let v = self.global(global);
@@ -84,6 +87,7 @@ impl<S: Store<Entry = Marked>> Run<S> {
     // y moved by z, counted in what it points at.
     pub(crate) fn move_by(&mut self, memory: &[u32], x: u32, y: u32, z: u32) -> Event
         requires going { Going S.entry S.taken self.old memory.now }
+        requires below { (x < 8) × (y < 8) × (z < 8) }
         ensures { Tried S.entry S.taken S.kept (λ m s f rest. move m s f rest x (value f y) (word (value f z)) (size m f x)) self.old memory.now (Ok result) self.new memory.now }
     {
         let n = self.word(z);

@@ -1,5 +1,5 @@
 // Loads and stores.
-ghost use Rattle.std.specs.Prelude.{◌≡◌, Ok, slice_set};
+ghost use Rattle.std.specs.Prelude.{◌≡◌, Ok, slice_set, ◌<◌};
 ghost use Rattle.machine.specs.Frames.{value};
 ghost use Rattle.machine.specs.Values.{word};
 ghost use Rattle.machine.specs.Machine.{keep, load, load_plain, load_within, store, store_plain, store_within};
@@ -17,6 +17,7 @@ impl<S: Store<Entry = Marked>> Run<S> {
     // A load that the store goes before.
     fn load_within(&mut self, memory: &[u32], x: u32, y: u32) -> Result<Event, Stop>
         requires going { Going S.entry S.taken self.old memory.now }
+        requires below { (x < 8) × (y < 8) }
         ensures { Tried S.entry S.taken S.kept (λ m s f rest. load_within m s f rest x (value f y)) self.old memory.now result self.new memory.now }
     {
         let Value::Marked(Marked::Data(a, bounds)) = self.value(y) else {
@@ -36,6 +37,7 @@ impl<S: Store<Entry = Marked>> Run<S> {
     // A load from the memory alone.
     fn load_plain(&mut self, memory: &[u32], x: u32, y: u32) -> Result<Event, Stop>
         requires going { Going S.entry S.taken self.old memory.now }
+        requires below { (x < 8) × (y < 8) }
         ensures { Tried S.entry S.taken S.kept (λ m s f rest. load_plain m s f rest x (word (value f y))) self.old memory.now result self.new memory.now }
     {
         let word = memory
@@ -48,6 +50,7 @@ impl<S: Store<Entry = Marked>> Run<S> {
 
     pub(crate) fn load(&mut self, memory: &[u32], x: u32, y: u32) -> Result<Event, Stop>
         requires going { Going S.entry S.taken self.old memory.now }
+        requires below { (x < 8) × (y < 8) }
         ensures { Tried S.entry S.taken S.kept (λ m s f rest. load m s f rest x y) self.old memory.now result self.new memory.now }
     {
         if self.is_sensitive(x) {
@@ -78,6 +81,7 @@ impl<S: Store<Entry = Marked>> Run<S> {
 
     fn store_within(&mut self, memory: &mut [u32], x: u32, y: u32) -> Result<Event, Stop>
         requires going { Going S.entry S.taken self.old memory.old }
+        requires below { (x < 8) × (y < 8) }
         ensures { Tried S.entry S.taken S.kept (λ m s f rest. store_within m s f rest (value f x) (value f y)) self.old memory.old result self.new memory.new }
     {
         let Value::Marked(Marked::Data(a, bounds)) = self.value(y) else {
@@ -92,6 +96,7 @@ impl<S: Store<Entry = Marked>> Run<S> {
 
     fn store_plain(&mut self, memory: &mut [u32], x: u32, y: u32) -> Result<Event, Stop>
         requires going { Going S.entry S.taken self.old memory.old }
+        requires below { (x < 8) × (y < 8) }
         ensures { Tried S.entry S.taken S.kept (λ m s f rest. store_plain m s f rest (word (value f x)) (word (value f y))) self.old memory.old result self.new memory.new }
     {
         let a = self.word(y) as usize;
@@ -105,6 +110,7 @@ impl<S: Store<Entry = Marked>> Run<S> {
 
     pub(crate) fn store(&mut self, memory: &mut [u32], x: u32, y: u32) -> Result<Event, Stop>
         requires going { Going S.entry S.taken self.old memory.old }
+        requires below { (x < 8) × (y < 8) }
         ensures { Tried S.entry S.taken S.kept (λ m s f rest. store m s f rest x y) self.old memory.old result self.new memory.new }
     {
         if self.is_sensitive(x) {

@@ -17,10 +17,12 @@ const MOST_SLOTS: u32 = 70_000;
 fn make_of(word: &[u8]) -> Result<Make, Fault>
     ensures { result ≡ make_of word.now }
 {
-    match word {
-        b"array" => Ok(Make::Array),
-        b"hash" => Ok(Make::Hash),
-        _ => Err(Fault::Word),
+    if word == b"array".as_slice() {
+        Ok(Make::Array)
+    } else if word == b"hash".as_slice() {
+        Ok(Make::Hash)
+    } else {
+        Err(Fault::Word)
     }
 }
 
@@ -73,12 +75,16 @@ fn address(words: &mut Words) -> Result<u32, Fault>
 fn call(verb: &[u8], words: &mut Words) -> Result<Call, Fault>
     ensures { heard said_call result ≡ call_words verb.now words.old }
 {
-    match verb {
-        b"put" => put(words),
-        b"drop" => address(words).map(Call::Drop),
-        b"get" => address(words).map(Call::Get),
-        b"takes" => address(words).map(Call::Takes),
-        _ => Err(Fault::Word),
+    if verb == b"put".as_slice() {
+        put(words)
+    } else if verb == b"drop".as_slice() {
+        address(words).map(Call::Drop)
+    } else if verb == b"get".as_slice() {
+        address(words).map(Call::Get)
+    } else if verb == b"takes".as_slice() {
+        address(words).map(Call::Takes)
+    } else {
+        Err(Fault::Word)
     }
 }
 

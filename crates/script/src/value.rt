@@ -24,9 +24,12 @@ fn bounded(words: &mut Words) -> Result<Marked, Fault>
 pub(crate) fn value(words: &mut Words) -> Result<Marked, Fault>
     ensures { answered mark result words.new ≡ take_value words.old }
 {
-    match words.word()? {
-        b"code" => Ok(Marked::Code(words.number(u32::MAX)?)),
-        b"data" => bounded(words),
-        _ => Err(Fault::Word),
+    let kind = words.word()?;
+    if kind == b"code".as_slice() {
+        Ok(Marked::Code(words.number(u32::MAX)?))
+    } else if kind == b"data".as_slice() {
+        bounded(words)
+    } else {
+        Err(Fault::Word)
     }
 }

@@ -1,4 +1,4 @@
-use Rattle.std.proofs.Common.{◌≡◌, ℕ, suc, ◌+◌, ◌<◌, Bool, true, false, not, cond, List, length, get_or, set, replicate, None, sym, ap, ◌∙◌, inl, inr, ⊎_elim, arith, below_more}
+use Rattle.std.proofs.Common.{◌≡◌, ℕ, suc, ◌+◌, ◌<◌, Bool, true, false, not, cond, Decides, List, length, get_or, set, replicate, None, sym, ap, ◌∙◌, inl, inr, ⊎_elim, arith, below_more}
 use Rattle.std.specs.List.{slice_get}
 use Rattle.std.proofs.lemmas.Bool.{cases_eq, cases_lt}
 use Rattle.std.proofs.lemmas.List.Sums.{sum_by-set}
@@ -6,7 +6,8 @@ use Rattle.std.proofs.lemmas.List.{length-replicate, get_or-replicate, get_or-se
 use Rattle.std.proofs.lemmas.Option.{slice_get_past}
 use Rattle.content.specs.declared.kind.Kind.{Kind}
 use Rattle.content.specs.declared.typed.Typed.{Typed}
-use Rattle.sensitivity.specs.Sensitive.{Chain, here, link, ChainFrom}
+use mathlib.Core.Bool.{Bool-set}
+use Rattle.sensitivity.specs.Sensitive.{Chain, here, link, ChainFrom, Sensitive}
 use Rattle.sensitivity.specs.Marks.{Marked, Due, Right, unmarked, Round}
 
 pub differ : {b : Bool} → b ≡ false → b ≡ true → ⊥
@@ -69,3 +70,7 @@ module _ (types : List Kind) (fields : List Typed) where
   pub more_same : (old : List Bool) (i : ℕ) (new : List Bool) (changed : Bool) → (Due fields new (slice_get types i) → Marked new i) → Round types fields old i new changed → Round types fields old (i + 1) new changed
   more_same old i new changed d s =
       record { right = s.right; least = s.least; falls = s.falls; closed = λ z. below_more _ _ (s.closed z) d }
+
+  -- where a round finds nothing new, exactly the sensitive types are marked
+  pub exact_marks : (marks old : List Bool) (changed : Bool) → Right types fields old → Round types fields old (length types) marks changed → changed ≡ false → (k : ℕ) → Decides (get_or marks k false) (Sensitive types fields k)
+  exact_marks marks old changed r s e k = (λ m. ∣ s.right r k m ∣₁, λ t. ∥∥₁_rec (Bool-set _ true) (closed_all marks (s.closed e) k) t)

@@ -11,21 +11,20 @@ pub data Chain (Link : ℕ → ℕ → Type 0) (End : ℕ → Type 0) : ℕ → 
 
 -- void and function end a chain
 abbrev pub Ends : Option Kind → Type 0
-Ends None = ⊥
-Ends (Some kind.Number) = ⊥
 Ends (Some kind.Void) = Unit {0}
 Ends (Some kind.Function) = Unit {0}
-Ends (Some (kind.Pointer to)) = ⊥
-Ends (Some (kind.Fields first count)) = ⊥
+Ends _ = ⊥
 
 -- a link goes from a pointer to what it points at, and from a record to each field's type
 abbrev pub Links : List Typed → Option Kind → ℕ → Type 0
-Links fields None j = ⊥
-Links fields (Some kind.Number) j = ⊥
-Links fields (Some kind.Void) j = ⊥
-Links fields (Some kind.Function) j = ⊥
 Links fields (Some (kind.Pointer to)) j = to ≡ j
 Links fields (Some (kind.Fields first count)) j = (k : ℕ) × (k < count) × (slice_get fields (first + k) ≡ Some (record { kind = j }))
+Links fields _ j = ⊥
+
+-- no field of a record in front of the one that leads to j leads to a type with P
+abbrev pub First : List Typed → (ℕ → Type 0) → Option Kind → ℕ → Type 0
+First fields P (Some (kind.Fields first count)) j = (k : ℕ) × (k < count) × (slice_get fields (first + k) ≡ Some (record { kind = j })) × ((i t : ℕ) → i < k → slice_get fields (first + i) ≡ Some (record { kind = t }) → P t → ⊥)
+First fields P _ j = Unit {0}
 
 -- a chain of links from type i to void or function
 abbrev pub ChainFrom : List Kind → List Typed → ℕ → Type 0

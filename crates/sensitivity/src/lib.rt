@@ -2,10 +2,11 @@
 #![tactic(auto)]
 
 ghost use Rattle.std.specs.Prelude.{◌≡◌, ℕ, ◌≤◌, false, length, Some, Decides, MatchOption, slice_index_or};
+ghost use Rattle.std.specs.Option.{IfSome};
 ghost use Rattle.std.specs.List.{slice_get};
 ghost use Rattle.parts.specs.Content.{content};
-ghost use Rattle.sensitivity.specs.Sensitive.{Sensitive};
-ghost use Rattle.sensitivity.specs.Marks.{NoMark, ToMark, Due, Round};
+ghost use Rattle.sensitivity.specs.Sensitive.{First, Sensitive};
+ghost use Rattle.sensitivity.specs.Marks.{Marked, NoMark, ToMark, Due, Round};
 
 use content::kind::Kind;
 use content::typed::Typed;
@@ -28,7 +29,8 @@ struct Marking<'a> {
 impl<'a> Marking<'a> {
     // The type of the first marked field.
     fn marked_field(&self, first: u32, count: u32) -> Option<u32>
-        ensures { MatchOption result (NoMark self.now.fields.now self.now.marks.now (Some (Kind.Fields first count))) (ToMark self.now.fields.now self.now.marks.now (Some (Kind.Fields first count))) }
+        ensures link { MatchOption result (NoMark self.now.fields.now self.now.marks.now (Some (Kind.Fields first count))) (ToMark self.now.fields.now self.now.marks.now (Some (Kind.Fields first count))) }
+        ensures first { IfSome result (λ j. First self.now.fields.now (Marked self.now.marks.now) (Some (Kind.Fields first count)) j) }
     {
         self.fields
             .get(first as usize..)?
@@ -40,7 +42,8 @@ impl<'a> Marking<'a> {
 
     // The end of the first link that leads to a marked type.
     fn marked_link(&self, kind: Kind) -> Option<u32>
-        ensures { MatchOption result (NoMark self.now.fields.now self.now.marks.now (Some kind)) (ToMark self.now.fields.now self.now.marks.now (Some kind)) }
+        ensures link { MatchOption result (NoMark self.now.fields.now self.now.marks.now (Some kind)) (ToMark self.now.fields.now self.now.marks.now (Some kind)) }
+        ensures first { IfSome result (λ j. First self.now.fields.now (Marked self.now.marks.now) (Some kind) j) }
     {
         match kind {
             Kind::Number | Kind::Void | Kind::Function => None,
@@ -72,19 +75,27 @@ fn round(types: &[Kind], fields: &[Typed], marks: &mut [bool; 64]) -> bool
     changed
 }
 
+fn marks_of(types: &[Kind], fields: &[Typed]) -> [bool; 64]
+    requires { length types.now ≤ 64 }
+    ensures { (k : ℕ) → Decides (slice_index_or result k false) (Sensitive types.now fields.now k) }
+{
+    let mut marks = [false; 64];
+    while round(types, fields, &mut marks) {}
+    marks
+}
+
 // Marks exactly the sensitive types.
 pub fn sensitive_types(parts: &Parts) -> [bool; 64]
     ensures { (k : ℕ) → Decides (slice_index_or result k false) (Sensitive (content parts.now).types (content parts.now).fields k) }
 {
     let lists = parts.lists();
-    let mut marks = [false; 64];
-    while round(lists.types, lists.fields, &mut marks) {}
-    marks
+    marks_of(lists.types, lists.fields)
 }
 
 // The end of the first link from type t that leads to a type marked in `sensitive`.
 pub fn next_link(parts: &Parts, sensitive: &[bool; 64], t: u32) -> Option<u32>
-    ensures { MatchOption result (NoMark (content parts.now).fields sensitive.now (slice_get (content parts.now).types t)) (ToMark (content parts.now).fields sensitive.now (slice_get (content parts.now).types t)) }
+    ensures link { MatchOption result (NoMark (content parts.now).fields sensitive.now (slice_get (content parts.now).types t)) (ToMark (content parts.now).fields sensitive.now (slice_get (content parts.now).types t)) }
+    ensures first { IfSome result (λ j. First (content parts.now).fields (Marked sensitive.now) (slice_get (content parts.now).types t) j) }
 {
     let lists = parts.lists();
     let kind = lists.types.get(t as usize).copied()?;

@@ -1,58 +1,56 @@
 // The frames that stand, the newest first.
-ghost use Rattle.std.specs.Prelude.{◌≡◌, ◌<◌, [], length, drop, slice_index_or, slice_set};
+ghost use Rattle.std.specs.Prelude.{◌≡◌, ◌<◌, [], length, drop};
 ghost use Rattle.std.specs.List.{slice_get};
 ghost use Rattle.std.specs.Option.{option_map};
 ghost use Rattle.machine.specs.Machine.{at_place};
-ghost use Rattle.machine.specs.Frames.{entered, value};
+ghost use Rattle.machine.specs.Frames.{value};
+ghost use Rattle.machine.specs.Values.{word};
 ghost use Rattle.stack.specs.Stack.{entering, newest, with_newest, with_local};
 
 use machine::frame::Frame;
+use machine::held::Held;
+use machine::local_number::LocalNumber;
 use machine::value::Value;
 use std::marker::Model;
 
 // The most frames that may stand.
 const MOST: usize = 16;
 
-// They are the first `depth` of the array, the oldest first.
+// The newest is kept at a fixed place, since each step asks for it; where none stands it is a fresh one of function 0.
 #[derive(Drop)]
 pub struct Stack {
     depth: usize,
-    frames: [Frame; MOST],
+    top: Frame,
+    // The others are the first `depth - 1` of the array, the oldest first.
+    below: [Frame; MOST],
 }
 
 impl Model for Stack {
-    ghost use Rattle.std.specs.Prelude.{◌≤◌, List};
+    ghost use Rattle.std.specs.Prelude.{List};
     ghost use Rattle.machine.specs.declared.frame.Frame.{Frame};
-    ghost use Rattle.stack.specs.Standing.{standing};
+    ghost use Rattle.stack.specs.Standing.{topped, Topped};
 
     ghost Value = { List Frame };
 
-    ghost view = { λ s. standing s.depth s.frames };
+    ghost view = { λ s. topped s.depth s.top s.below };
 
-    ghost invariant = { λ s. s.depth ≤ 16 };
+    ghost invariant = { λ s. Topped s.depth s.top };
 }
 
-// Of a slice: a proof isn't told how long a frame's array is.
-#[tactic(auto, using(std::proofs::lemmas::List::set_past))]
-fn put_at(locals: &mut [Value], x: u32, v: Value)
-    ensures { locals.new ≡ slice_set locals.old x v }
+fn set_local_of(frame: &mut Frame, number: LocalNumber, v: Value)
+    ensures { frame.new ≡ with_local number.x v frame.old }
 {
-    if (x as usize) < locals.len() {
-        locals[x as usize] = v;
-    }
+    frame.locals[number.x as usize] = Held::of(v);
 }
 
-fn set_local_of(frame: &mut Frame, x: u32, v: Value)
-    ensures { frame.new ≡ with_local x v frame.old }
+// In parts, which are short enough that the compiler copies them on the spot.
+fn set_frame(to: &mut Frame, from: Frame)
+    ensures { to.new ≡ from }
 {
-    put_at(&mut frame.locals, x, v);
-}
-
-fn set_local_at(frames: &mut [Frame], k: usize, x: u32, v: Value)
-    requires { k < length frames.old }
-    ensures { frames.new ≡ slice_set frames.old k (with_local x v (slice_index_or frames.old k (entered 0))) }
-{
-    set_local_of(&mut frames[k], x, v);
+    to.function = from.function;
+    to.place = from.place;
+    let locals = from.locals;
+    to.locals = locals;
 }
 
 impl Stack {
@@ -61,11 +59,12 @@ impl Stack {
     {
         Stack {
             depth: 0,
-            frames: [Frame::of(0); MOST],
+            top: Frame::of(0),
+            below: [Frame::of(0); MOST],
         }
     }
 
-    #[tactic(auto, using(crate::proofs::Tops::length_standing))]
+    #[tactic(auto, using(crate::proofs::Tops::length_topped))]
     pub fn len(&self) -> usize
         ensures { result ≡ length self.now }
     {
@@ -73,82 +72,96 @@ impl Stack {
     }
 
     // The frame that stands k below the newest.
-    #[tactic(auto, using(crate::proofs::Tops::standing_at, crate::proofs::Tops::standing_none))]
+    #[tactic(auto, using(crate::proofs::Tops::topped_first, crate::proofs::Tops::topped_none_at, crate::proofs::Tops::topped_some_at))]
     pub fn get(&self, k: usize) -> Option<&Frame>
         ensures { option_map (λ f. f.now) result ≡ slice_get self.now k }
     {
-        if k < self.depth {
-            Some(&self.frames[self.depth - 1 - k])
-        } else {
+        if k >= self.depth {
             None
+        } else if k == 0 {
+            Some(&self.top)
+        } else {
+            Some(&self.below[self.depth - 1 - k])
         }
     }
 
     // Enters a function, in a frame that is cleared where it will stand; does nothing where 16 stand.
-    #[tactic(auto, using(crate::proofs::Tops::length_standing, crate::proofs::Tops::standing_push))]
+    #[tactic(auto, using(crate::proofs::Tops::enter_more, crate::proofs::Tops::enter_first, crate::proofs::Tops::length_topped))]
     pub fn enter(&mut self, function: u32)
         ensures { self.new ≡ entering function self.old }
     {
         if self.depth < MOST {
-            self.frames[self.depth] = Frame::of(function);
+            if self.depth > 0 {
+                let top = self.top;
+                set_frame(&mut self.below[self.depth - 1], top);
+            }
+            self.top = Frame::of(function);
             self.depth += 1;
         }
     }
 
     // The function of the newest frame; 0 where none stands.
+    #[tactic(auto, using(crate::proofs::Tops::newest_topped))]
     pub fn function(&self) -> u32
         ensures { result ≡ (newest self.now).function }
     {
-        match self.get(0) {
-            Some(frame) => frame.function,
-            None => 0,
-        }
+        self.top.function
     }
 
     // The place of its next instruction; 0 where none stands.
+    #[tactic(auto, using(crate::proofs::Tops::newest_topped))]
     pub fn place(&self) -> u32
         ensures { result ≡ (newest self.now).place }
     {
-        match self.get(0) {
-            Some(frame) => frame.place,
-            None => 0,
-        }
+        self.top.place
     }
 
-    // What its local x holds; plain 0 where there is none.
-    pub fn local(&self, x: u32) -> Value
-        ensures { result ≡ value (newest self.now) x }
+    // What its local holds; plain 0 where none stands.
+    #[tactic(auto, using(crate::proofs::Tops::newest_topped))]
+    pub fn local(&self, number: LocalNumber) -> Value
+        ensures { result ≡ value (newest self.now) number.x }
     {
-        match self.get(0) {
-            Some(frame) => frame.local(x),
-            None => Value::Plain(0),
-        }
+        self.top.held(number).value()
+    }
+
+    // Its word.
+    #[tactic(auto, using(crate::proofs::Tops::newest_topped))]
+    pub fn word(&self, number: LocalNumber) -> u32
+        ensures { result ≡ word (value (newest self.now) number.x) }
+    {
+        self.top.held(number).word()
     }
 
     // The newest frame goes.
+    #[tactic(auto, using(crate::proofs::Tops::leave_more, crate::proofs::Tops::leave_last))]
     pub fn leave(&mut self)
         ensures { self.new ≡ drop 1 self.old }
     {
-        self.depth = self.depth.saturating_sub(1);
+        if self.depth > 1 {
+            let next = self.below[self.depth - 2];
+            set_frame(&mut self.top, next);
+            self.depth -= 1;
+        } else {
+            self.depth = 0;
+            self.top = Frame::of(0);
+        }
     }
 
     // Its next instruction is at this place; nothing where none stands.
-    #[tactic(auto, using(crate::proofs::Tops::standing_top))]
     pub fn set_place(&mut self, place: u32)
         ensures { self.new ≡ with_newest (λ f. at_place f place) self.old }
     {
         if self.depth > 0 {
-            self.frames[self.depth - 1].place = place;
+            self.top.place = place;
         }
     }
 
-    // Its local x holds a value; nothing where there is none.
-    #[tactic(auto, using(crate::proofs::Tops::standing_top))]
-    pub fn set_local(&mut self, x: u32, v: Value)
-        ensures { self.new ≡ with_newest (with_local x v) self.old }
+    // Its local holds a value; nothing where none stands.
+    pub fn set_local(&mut self, number: LocalNumber, v: Value)
+        ensures { self.new ≡ with_newest (with_local number.x v) self.old }
     {
         if self.depth > 0 {
-            set_local_at(&mut self.frames, self.depth - 1, x, v);
+            set_local_of(&mut self.top, number, v);
         }
     }
 }

@@ -1,11 +1,13 @@
-use Rattle.std.proofs.Common.{◌≡◌, ℕ, zero, suc, ◌+◌, ◌*◌, ◌<◌, ◌≤◌, List, [], ◌∷◌, length, get_or, take, set, unwrap_or, Some, add-one, arith}
+use Rattle.std.proofs.Common.{◌≡◌, ℕ, zero, suc, ◌+◌, ◌*◌, ◌<◌, ◌≤◌, List, [], ◌∷◌, length, get_or, take, set, unwrap_or, Some, ap, ◌∙◌, add-one, arith, below_more}
 use Rattle.std.specs.List.{slice_get}
+use Rattle.std.proofs.lemmas.List.{take_all}
 use Rattle.std.proofs.lemmas.Grind.{common_steps}
 use Rattle.std.proofs.lemmas.Option.{gets}
 use Rattle.content.specs.declared.kind.Kind.{Kind}
 use Rattle.content.specs.declared.global.Global.{Global}
 use Rattle.rules.specs.Types.{size}
-use Rattle.tables.specs.Tables.{words}
+use Rattle.tables.specs.declared.places.Span.{Span}
+use Rattle.tables.specs.Tables.{words, Placed}
 
 module _ (types : List Kind) where
   words_suc : (gs : List Global) (k : ℕ) (d : Global) → k < length gs → words types (take (suc k) gs) ≡ words types (take k gs) + unwrap_or (size (slice_get types (get_or gs k d).kind)) 0 * (get_or gs k d).count
@@ -21,8 +23,26 @@ module _ (types : List Kind) where
   words_front [] (suc k) = omega arith
   words_front (g ∷ gs) (suc k) = let l = words_front gs k in omega (arith, l)
 
-pub nth_set_same : {X : Type 0} (xs : List X) (i : ℕ) (x : X) → i < length xs → slice_get (set xs i x) i ≡ Some x
+pub words_all : (types : List Kind) (gs : List Global) (k : ℕ) → length gs ≤ k → words types (take k gs) ≡ words types gs
+words_all types gs k h = ap (words types) (take_all k gs h)
+
+nth_set_same : {X : Type 0} (xs : List X) (i : ℕ) (x : X) → i < length xs → slice_get (set xs i x) i ≡ Some x
 nth_set_same xs i x h = grind (arith, common_steps, gets)
 
-pub nth_set_below : {X : Type 0} (xs : List X) (i k : ℕ) (x : X) → k < i → slice_get (set xs i x) k ≡ slice_get xs k
+nth_set_below : {X : Type 0} (xs : List X) (i k : ℕ) (x : X) → k < i → slice_get (set xs i x) k ≡ slice_get xs k
 nth_set_below xs i k x h = grind (arith, common_steps, gets)
+
+-- the first k globals are placed
+pub record PlacedTo (types : List Kind) (gs : List Global) (spans : List Span) (k : ℕ) : Type 0 where
+  pub each : (j : ℕ) → j < k → slice_get spans j ≡ Some (record { low = words types (take j gs); high = words types (take (j + 1) gs) })
+
+module _ (types : List Kind) (gs : List Global) (spans : List Span) (k : ℕ) where
+  pub placed_more : (a b : ℕ) → PlacedTo types gs spans k → a ≡ words types (take k gs) → b ≡ words types (take (k + 1) gs) → k < length spans → PlacedTo types gs (set spans k (record { low = a; high = b })) (k + 1)
+  placed_more a b p ea eb l = record {
+    each = below_more _ _
+        (λ j h. nth_set_below spans k j (record { low = a; high = b }) h ∙ p.each j h)
+        (nth_set_same spans k (record { low = a; high = b }) l ∙ ap (λ lo. Some (record { low = lo; high = b })) ea ∙ ap (λ hi. Some (record { low = words types (take k gs); high = hi })) eb);
+  }
+
+  pub placed_all : PlacedTo types gs spans k → length gs ≤ k → Placed types gs spans
+  placed_all p h = record { each = λ j l. p.each j (omega arith) }

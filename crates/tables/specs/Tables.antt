@@ -32,8 +32,7 @@ pub record AllPlaced (c : Content) (p : Places) : Type 0 where
 
 -- whether a type is marked, if there is one
 abbrev pub mark_of : List Bool → Option ℕ → Bool
-mark_of marks None = false
-mark_of marks (Some t) = slice_index_or marks t false
+mark_of marks t = option_map_or (λ t. slice_index_or marks t false) t false
 
 -- what a step has to know of local x: whether its type is sensitive, and the size of what it points at, if that has one
 abbrev pub local_of : Content → List Bool → Function → ℕ → Local
@@ -51,6 +50,6 @@ plain = record { sensitive = false; size = None }
 abbrev pub layout_at : Content → List Bool → ℕ → List Local
 layout_at c marks k = option_map_or (layout_of c marks) (slice_get c.functions k) (replicate 8 plain)
 
--- the table of layouts has each function's
+-- the table of layouts has each function's, and behind the last function all is plain
 abbrev pub LaidOut : Content → List Bool → List (List Local) → Type 0
-LaidOut c marks table = (k : ℕ) (f : Function) → slice_get c.functions k ≡ Some f → slice_get table k ≡ Some (layout_of c marks f)
+LaidOut c marks table = (k : ℕ) → k < 64 → slice_get table k ≡ Some (layout_at c marks k)

@@ -35,6 +35,7 @@ pub struct Places {
 }
 
 // Places the globals one after another; nothing where they take more than `limit` words.
+#[tactic(auto, using(crate::proofs::Words::words_more, crate::proofs::Words::words_front, crate::proofs::Words::words_all, crate::proofs::Words::placed_all))]
 fn place_all(types: &[Kind], globals: &[Global], limit: u32) -> Option<Places>
     requires { length globals.now ≤ 64 }
     ensures { MatchOption result (limit < words types.now globals.now) (λ p. (p.heap ≡ words types.now globals.now) × (p.heap ≤ limit) × Placed types.now globals.now p.spans) }

@@ -1,1 +1,3 @@
+mod Instances
+mod Said
 mod Shown

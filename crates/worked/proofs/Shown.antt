@@ -33,14 +33,14 @@ use Rattle.machine.proofs.Bounding.{bounded}
 use Rattle.worked.specs.Worked.{kinds, both, FourToSix, Asked, Holding3, Spoilt, FiveAndNine, Worked}
 
 -- where no link leads out of Q, and Q has no end, no chain begins in Q
-unending : (L : ℕ → ℕ → Type 0) (E Q : ℕ → Type 0) → ((i : ℕ) → Q i → E i → ⊥) → ((i j : ℕ) → Q i → L i j → Q j) → {i : ℕ} → Chain L E i → Q i → ⊥
+pub unending : (L : ℕ → ℕ → Type 0) (E Q : ℕ → Type 0) → ((i : ℕ) → Q i → E i → ⊥) → ((i j : ℕ) → Q i → L i j → Q j) → {i : ℕ} → Chain L E i → Q i → ⊥
 unending L E Q e l (here i p) q = e i q p
 unending L E Q e l (link i j r s) q = unending L E Q e l s (l i j q r)
 
 circle : Sensitive (Pointer 0 ∷ []) [] 0 → ⊥
 circle = ∥∥₁_rec ⊥_prop (λ c. unending _ _ (λ i. i ≡ 0) (λ i q p. rw q at p) (λ i j q r. sym (rw q at r)) c refl)
 
-to_number : Sensitive kinds both 5 → ⊥
+pub to_number : Sensitive kinds both 5 → ⊥
 to_number =
     ∥∥₁_rec ⊥_prop (λ c.
     unending _ _ (λ i. (i ≡ 5) ⊎ (i ≡ 0))

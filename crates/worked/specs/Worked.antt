@@ -1,9 +1,10 @@
 -- Worked cases of what the definitions say.
-use Rattle.std.specs.Prelude.{◌≡◌, ◌≢◌, ℕ, ◌+◌, ◌<◌, true, false, List, [], ◌∷◌, length, is_some, Some, slice_index_or, vec_items}
+use Rattle.std.specs.Prelude.{◌≡◌, ◌≢◌, ℕ, ◌+◌, ◌<◌, true, false, List, [], ◌∷◌, length, replicate, is_some, None, Some, Ok, slice_index_or, slice_set, vec_items}
 use Rattle.content.specs.declared.kind.Kind.{Kind}
-use Rattle.content.specs.declared.kind.Kind.TheVariants.{Number, Function, Pointer, Fields}
+use Rattle.content.specs.declared.kind.Kind.TheVariants.{Number, Void, Function, Pointer, Fields}
 use Rattle.content.specs.declared.typed.Typed.{Typed}
 use Rattle.content.specs.declared.instruction.Instruction.TheVariants as op
+use Rattle.parts.specs.Content.{Content}
 use Rattle.sensitivity.specs.Sensitive.{Sensitive}
 use Rattle.stores.specs.Meaning.{Put}
 use Rattle.stores.specs.Slots.{SlotsKept}
@@ -17,20 +18,18 @@ use Rattle.tables.specs.Tables.{words}
 use Rattle.module.specs.Modules.{said}
 use Rattle.module.specs.declared.module.Module.{Module}
 use Rattle.values.specs.declared.bounds.Bounds.{Bounds}
-use Rattle.values.specs.declared.marked.Marked.{Marked as Mark}
-use Rattle.values.specs.declared.marked.Marked.TheVariants.{Code, Data}
-use Rattle.machine.specs.declared.value.Value.TheVariants.{Plain, Marked}
 use Rattle.machine.specs.declared.frame.Frame.{Frame}
 use Rattle.machine.specs.declared.event.EventKind.TheVariants.{Moved, Allocated}
 use Rattle.machine.specs.declared.refusal.Stop.TheVariants.{Outside, NotCode, HeapFull}
-use Rattle.machine.specs.Values.{word, read, wrapped}
-use Rattle.machine.specs.Frames.{value}
+use Rattle.machine.specs.declared.value.Value.TheVariants.{Plain, Marked}
+use Rattle.machine.specs.Values.{Mark, Code, Data, word, read, wrapped}
+use Rattle.machine.specs.Frames.{entered, value}
 use Rattle.machine.specs.Events.{event, other}
-use Rattle.machine.specs.Machine.{Sight, keeps, makes, stops, given, gives, sensitive, size, load_within, field_within, move, make}
+use Rattle.machine.specs.Machine.{Sight, Step, keeps, makes, stops, given, gives, sensitive, size, load_within, field_within, move, make}
 
--- numbers, functions, pointers to functions, records of a number and a pointer to a function, pointers to these records, pointers to numbers
+-- numbers, functions, pointers to functions, records of a number and a pointer to a function, pointers to these records, pointers to numbers, void, void pointers, pointers to void pointers
 abbrev pub kinds : List Kind
-kinds = Number ∷ Function ∷ Pointer 1 ∷ Fields 0 2 ∷ Pointer 3 ∷ Pointer 0 ∷ []
+kinds = Number ∷ Function ∷ Pointer 1 ∷ Fields 0 2 ∷ Pointer 3 ∷ Pointer 0 ∷ Void ∷ Pointer 6 ∷ Pointer 7 ∷ []
 
 -- the two fields of the record
 abbrev pub both : List Typed
@@ -121,3 +120,41 @@ pub record Worked : Type 0 where
   pub window : (w x : Window (ArrayStore Mark)) (v : Mark) → Eight w → Eight x
       → (window_taken array_taken w 7 ≡ true) × (array_taken w.below 107 ≡ true) × (window_entry array_entry w 7 ≡ array_entry w.below 107) × (Put (window_entry array_entry w) (window_entry array_entry x) (window_taken array_taken w) (window_taken array_taken x) 7 v → array_entry x.below 107 ≡ Some v)
       × (window_taken array_taken w 8 ≡ false)
+
+-- what a module may say: two records take 4 of its 10 words; function 0 takes the address of function 3, spoils it, and allocates
+abbrev pub four : Content
+four =
+    record {
+      memory = 10;
+      depth = 1;
+      types = kinds;
+      fields = both;
+      globals = record { kind = 3; count = 2 } ∷ [];
+      locals = record { kind = 2 } ∷ record { kind = 8 } ∷ record { kind = 0 } ∷ record { kind = 4 } ∷ record { kind = 0 } ∷ record { kind = 0 } ∷ [];
+      functions = record { first = 0; count = 11; first_local = 0; locals = 6 } ∷ replicate 3 (record { first = 10; count = 1; first_local = 0; locals = 0 });
+      code = op.Function 0 3 ∷ op.Set 2 1 ∷ op.Set 4 3 ∷ op.Set 5 2147483648 ∷ op.Cast 1 0 ∷ op.Move 1 1 2 ∷ op.Cast 0 1 ∷ op.Allocate 3 4 ∷ op.Allocate 3 5 ∷ op.CallThrough 0 ∷ op.Return ∷ [];
+    }
+
+-- function 0 behind its first four instructions
+abbrev pub standing : Frame
+standing = record { function = 0; place = 4; locals = Marked (Code 3) ∷ Plain 0 ∷ Plain 1 ∷ Plain 0 ∷ Plain 3 ∷ Plain 2147483648 ∷ Plain 0 ∷ Plain 0 ∷ [] }
+
+-- a run with this frame alone and nothing allocated, on an empty store that takes any address
+abbrev pub seen : Module → Frame → Sight
+seen m f = record { state = record { stack = f ∷ []; heap = words (said m).types (said m).globals; stopped = false }; entries = λ _. None; taken = λ _. true; memory = replicate 10 0 }
+
+-- The premises of the cases are met.
+pub record Met : Type 0 where
+  pub four_to_six : (b : Bounds) × FourToSix b
+  pub says : (m : Module) × (said m ≡ four)
+  -- From a run's beginning four steps lead to `standing`.
+  pub stands : (m : Module) → said m ≡ four → (f : Frame) × (g : Frame) × (h : Frame)
+      × Step m (seen m (entered 0)) (Ok other) (seen m f) × Step m (seen m f) (Ok other) (seen m g) × Step m (seen m g) (Ok other) (seen m h) × Step m (seen m h) (Ok other) (seen m standing)
+  pub holding : (m : Module) → said m ≡ four → Holding3 m standing 0 1 2
+  pub asked : (m : Module) → said m ≡ four → Asked m (seen m standing) standing 3 4 5
+  -- A hash store whose two slots hold 9 and 5, and one as it is after 5 was dropped.
+  pub hashed : (v u : Mark) → (h : HashStore Mark) × (i : HashStore Mark) × (vec_items h.slots ≡ Some (9, u) ∷ Some (5, v) ∷ []) × (vec_items i.slots ≡ None ∷ Some (9, u) ∷ [])
+      × FiveAndNine h × HashDropped (vec_items h.slots) (vec_items i.slots) 5 × SlotsKept (vec_items h.slots) (vec_items i.slots)
+  -- A window over 200 empty slots, and one as it is after v was put at 7.
+  pub window : (v : Mark) → (w : Window (ArrayStore Mark)) × (x : Window (ArrayStore Mark)) × (vec_items w.below.slots ≡ replicate 200 None) × (vec_items x.below.slots ≡ slice_set (replicate 200 None) 107 (Some v))
+      × Eight w × Eight x × Put (window_entry array_entry w) (window_entry array_entry x) (window_taken array_taken w) (window_taken array_taken x) 7 v

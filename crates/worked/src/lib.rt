@@ -2,13 +2,14 @@
 #![tactic(auto)]
 
 ghost use Rattle.std.specs.Prelude.{◌≡◌};
-ghost use Rattle.worked.specs.Worked.{Worked};
+ghost use Rattle.worked.specs.Worked.{Met, Worked};
 
-// How many worked cases there are.
-#[tactic(auto, using(crate::proofs::Shown::worked))]
+// How many worked cases there are; and that there is what their premises ask for.
+#[tactic(auto, using(crate::proofs::Shown::worked, crate::proofs::Instances::met))]
 pub fn cases() -> usize
     ensures count { result ≡ 10 }
     ensures worked { Worked }
+    ensures met { Met }
 {
     10
 }

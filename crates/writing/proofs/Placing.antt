@@ -1,6 +1,6 @@
-use Rattle.std.proofs.Common.{◌≡◌, ℕ, ◌+◌, ◌*◌, ◌<◌, ◌≤◌, List, [], ◌∷◌, ◌++◌, length, get_or, take, drop, sym, refl, ap, ◌∙◌, mul-le-mul_left, mul-zero, mul-one, mul-add, mul_assoc, arith}
+use Rattle.std.proofs.Common.{◌≡◌, ℕ, ◌+◌, ◌-◌, ◌*◌, ◌<◌, ◌≤◌, List, [], ◌∷◌, ◌++◌, length, get_or, take, drop, sym, refl, ap, ◌∙◌, mul-le-mul_left, mul-zero, mul-one, mul-add, mul_assoc, arith}
 use Rattle.std.specs.List.{flat_map}
-use Rattle.std.proofs.lemmas.List.{length-append, length-take-le, append_assoc, take-append-drop, take_at, drop_at, drop-drop, take_more, flat_map_more}
+use Rattle.std.proofs.lemmas.List.{length-append, length-take-le, append_assoc, take-append-drop, take_at, drop_at, drop-drop, take_all, take_more, flat_map_more}
 use Rattle.std.proofs.lemmas.Grind.{flat_map-append}
 use Rattle.records.specs.Words.{bytes_of, spell}
 use Rattle.writing.specs.Putting.{placed}
@@ -64,3 +64,16 @@ place_next w i s at e = omega (arith, mul-add (4 * w) i 1, mul-one (4 * w))
 
 pub place_last : (w n s : ℕ) → s + 4 * (w * n) ≡ s + 4 * w * n
 place_last w n s = ap (λ m. s + m) (sym (mul_assoc 4 w n))
+
+-- one word put in the place of four bytes
+pub word_placed : (s bs : List ℕ) (at : ℕ) → take at s ++ (bs ++ drop (at + 4 - at) (drop at s)) ≡ take at s ++ (bs ++ drop (at + 4) s)
+word_placed s bs at =
+    let four : at + 4 - at ≡ 4 = omega arith in
+    ap (λ k. take at s ++ (bs ++ drop k (drop at s))) four ∙ ap (λ d. take at s ++ (bs ++ d)) (drop-drop 4 at s)
+
+-- one more word, and all of them
+pub word_more : (ws : List ℕ) (k at : ℕ) (s out : List ℕ) → out ≡ placed s at (spell (take k ws)) → at + 4 * length ws ≤ length s → k < length ws → placed out (at + 4 * k) (bytes_of (get_or ws k 0)) ≡ placed s at (spell (take (k + 1) ws))
+word_more ws k at s out e h l = piece_more bytes_of 4 (λ _. refl) ws k at _ _ 0 s out h l refl refl e
+
+pub all_words : (ws : List ℕ) (k at : ℕ) (s : List ℕ) → length ws ≤ k → placed s at (spell (take k ws)) ≡ placed s at (spell ws)
+all_words ws k at s h = ap (λ xs. placed s at (spell xs)) (take_all k ws h)

@@ -58,6 +58,7 @@ fn put_lists(out: &mut [u8], at: Starts, lists: Lists)
 }
 
 // Puts the image into bytes that are enough.
+#[tactic(auto, using(crate::proofs::Whole::length_image))]
 fn put_image(out: &mut [u8], parts: &Parts)
     requires { length (image_of (content parts.now)) ≤ length out.old }
     ensures { out.new ≡ image_of (content parts.now) ++ drop (length (image_of (content parts.now))) out.old }

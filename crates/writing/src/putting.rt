@@ -6,6 +6,7 @@ ghost use Rattle.writing.specs.Putting.{placed};
 
 use records::record::Record;
 
+#[tactic(auto, using(crate::proofs::Placing::word_placed), unfolding(crate::specs::Putting::placed))]
 fn put_word(out: &mut [u8], at: usize, word: u32)
     requires { at + 4 ≤ length out.old }
     ensures { out.new ≡ placed out.old at (bytes_of word) }
@@ -13,6 +14,7 @@ fn put_word(out: &mut [u8], at: usize, word: u32)
     out[at..at + 4].copy_from_slice(&word.to_le_bytes());
 }
 
+#[tactic(auto, using(crate::proofs::Placing::placed_none, crate::proofs::Placing::word_more, crate::proofs::Placing::all_words))]
 pub(crate) fn put_words(out: &mut [u8], at: usize, words: &[u32])
     requires { at + 4 * length words.now ≤ length out.old }
     ensures { out.new ≡ placed out.old at (spell words.now) }

@@ -1,18 +1,11 @@
-use Rattle.std.proofs.Common.{◌≡◌, length, ap, sym, ◌∙◌, arith}
+use Rattle.std.proofs.Common.{◌≡◌, ap, sym, ◌∙◌}
 use Rattle.records.specs.Words.{spell}
-use Rattle.header.specs.Header.{end_at}
 use Rattle.header.specs.declared.header.Header.{Header}
 use Rattle.parts.specs.Content.{content, lengths}
 use Rattle.writing.specs.Image.{header_words, list_words}
 use Rattle.writing.specs.Putting.{placed}
-use Rattle.writing.proofs.Whole.{length_image, image_placed}
+use Rattle.writing.proofs.Whole.{image_placed}
 use Rattle.writing.proofs.put_image.Goals as goal
-
-pub put_words-requires : goal.put_words-requires
-put_words-requires c = omega (arith, ap length c.header_words.ensures, length_image (content c.args.parts.now), c.requires)
-
-pub put_lists-requires-clause-fits : goal.put_lists-requires-clause-fits
-put_lists-requires-clause-fits c = omega (arith, ap (λ v. end_at (lengths v)) c.lists.ensures, length_image (content c.args.parts.now), c.requires)
 
 pub returns : goal.returns
 returns c =

@@ -3,4 +3,4 @@ use Rattle.desk.specs.Telling.{numbered}
 use Rattle.desk.proofs.doing.sensitive_types.Given as goal
 
 abbrev pub invariant-loop-t : goal.invariant-loop-t
-invariant-loop-t l = string_bytes l.text ≡ numbered l.held.sensitive l.t-counter
+invariant-loop-t l = string_bytes l.text ≡ numbered l.held.sensitive l.t

@@ -1,14 +1,8 @@
-use Rattle.std.proofs.Common.{◌≡◌, length, vec_items, refl, arith}
-use Rattle.board.specs.Runs.{Stepped}
-use Rattle.board.specs.declared.report.Report.TheVariants as tells
-use Rattle.board.proofs.Standing.{stands}
+use Rattle.std.proofs.Common.{◌≡◌, length, refl, arith}
+use Rattle.board.proofs.Standing.{steps_so}
 use Rattle.board.proofs.board.Board.step.Goals as goal
 
 pub returns-in-Some : goal.returns-in-Some
 returns-in-Some g c =
-    let v = c.args.self.now.memory in
-    let old : c.as_mut_slice.result.now ≡ vec_items v = c.as_mut_slice.ensures.value in
-    let long : length c.step.new.memory ≡ v.len = omega arith in
-    let it : Stepped g.S.Store.entry g.S.Store.taken g.S.Store.kept c.in-Some.run' c.as_mut_slice.result.now (tells.Stepped c.step.result) c.step.new.self c.step.new.memory =
-    record { answer = c.step.result; told = refl; module_is = c.step.ensures.«module»; kept = c.step.ensures.kept; step = c.step.ensures.step } in
-    rw c.in-Some.is (stands (λ l. Stepped g.S.Store.entry g.S.Store.taken g.S.Store.kept c.in-Some.run' l (tells.Stepped c.step.result)) v c.step.new.self c.as_mut_slice.result.now c.step.new.memory old long it)
+    let long : length c.step_on.new.memory ≡ c.args.self.now.memory.len = omega arith in
+    steps_so _ _ _ _ c.args.self.now _ c.in-Some.run' c.step_on.new.run _ _ _ c.in-Some.is refl refl c.as_mut_slice.ensures.value long c.step_on.ensures

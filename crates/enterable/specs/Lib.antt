@@ -1,0 +1,4 @@
+pub mod Enterable
+pub mod First
+pub mod Rounds
+pub mod Sets

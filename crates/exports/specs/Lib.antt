@@ -1,0 +1,4 @@
+pub mod Answers
+pub mod Stores
+pub mod Runs
+pub mod Orders
