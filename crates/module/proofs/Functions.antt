@@ -7,7 +7,7 @@ use Rattle.content.specs.declared.function.Function.{Function}
 use Rattle.content.specs.declared.instruction.Instruction.{Instruction}
 use Rattle.parts.specs.Content.{Content}
 use Rattle.module.specs.declared.module.Module.{Module}
-use Rattle.module.specs.Modules.{said, in_function, instruction_at}
+use Rattle.module.specs.Modules.{said, function_at, in_function, instruction_at}
 
 none_if : (b : Bool) (o : Option Instruction) → (b ≡ true → ⊥) → cond b o None ≡ None
 none_if true o n = absurd (n refl)
@@ -24,6 +24,16 @@ no_instruction c d k i same e =
 
 pub these_instructions : (c d : Content) (k i : ℕ) (f : Function) → d ≡ c → Some f ≡ slice_get d.functions k → in_function c (Some f) i ≡ instruction_at c k i
 these_instructions c d k i f same e =
+    let g : slice_get c.functions k ≡ Some f = cc (ap (λ (x : Content). slice_get x.functions k) same, e) in
+    rw g refl
+
+pub none_there : (c d : Content) (k : ℕ) → d ≡ c → None ≡ slice_get d.functions k → no_function ≡ function_at c k
+none_there c d k same e =
+    let f : slice_get c.functions k ≡ None = cc (ap (λ (x : Content). slice_get x.functions k) same, e) in
+    rw f refl
+
+pub one_there : (c d : Content) (k : ℕ) (f : Function) → d ≡ c → Some f ≡ slice_get d.functions k → f ≡ function_at c k
+one_there c d k f same e =
     let g : slice_get c.functions k ≡ Some f = cc (ap (λ (x : Content). slice_get x.functions k) same, e) in
     rw g refl
 

@@ -2,7 +2,7 @@
 ghost use Rattle.std.specs.Prelude.{◌≡◌, ℕ, ◌+◌, ◌<◌, ◌≤◌, Some, length};
 ghost use Rattle.std.specs.Option.{IfSome};
 ghost use Rattle.parts.specs.Content.{viewed};
-ghost use Rattle.module.specs.Modules.{said, in_function, instruction_at, local_at};
+ghost use Rattle.module.specs.Modules.{said, function_at, in_function, instruction_at, local_at};
 
 use crate::module::Module;
 use content::function::Function;
@@ -37,8 +37,9 @@ impl Module {
     }
 
     // Function `k`; one of no instructions where there is none.
-    #[tactic(auto, using(crate::proofs::Functions::no_instruction, crate::proofs::Functions::these_instructions))]
+    #[tactic(auto, using(crate::proofs::Functions::no_instruction, crate::proofs::Functions::these_instructions, crate::proofs::Functions::none_there, crate::proofs::Functions::one_there))]
     pub fn function(&self, k: u32) -> Function
+        ensures value { result ≡ function_at (said self.now) k }
         ensures instructions { (place : ℕ) → in_function (said self.now) (Some result) place ≡ instruction_at (said self.now) k place }
         ensures fits { result.first + result.count ≤ length (said self.now).code }
     {
