@@ -2,7 +2,7 @@
 use Rattle.std.proofs.Common.{◌≡◌, ◌≢◌, ℕ, ◌<◌, true, List, length, set, vec_items, Option, None, refl, ◌∙◌}
 use Rattle.std.proofs.lemmas.List.{get_or-set_other, get_or-set_same, length-set}
 use Rattle.std.proofs.lemmas.Bool.{ltb-true}
-use Rattle.array_store.specs.Array.{Written, row_entry, row_taken}
+use Rattle.array_store.specs.inside.Rows.{SlotWritten, row_entry, row_taken}
 use Rattle.array_store.specs.declared.ArrayStore.{ArrayStore}
 use Rattle.stores.specs.Slots.{SlotsKept, counted}
 use Rattle.stores.proofs.Counted.{counted_set, kept_set}
@@ -24,7 +24,7 @@ module _ {V : Type 0} where
     pub write_kept : SlotsKept xs (set xs a x)
     write_kept = kept_set xs a x within
 
-  pub written : (s t : ArrayStore V) (a : ℕ) (x : Option V) → row_taken (counted (vec_items s.slots)) a ≡ true → vec_items t.slots ≡ set (vec_items s.slots) a x → Written s t a x
+  pub written : (s t : ArrayStore V) (a : ℕ) (x : Option V) → row_taken (counted (vec_items s.slots)) a ≡ true → vec_items t.slots ≡ set (vec_items s.slots) a x → SlotWritten s t a x
   written s t a x counts e =
       let xs = vec_items s.slots in
       record {

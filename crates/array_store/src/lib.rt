@@ -2,7 +2,8 @@
 #![tactic(auto)]
 
 ghost use Rattle.std.specs.Prelude.{◌≡◌, ℕ, min, true, false, is_ok, length, replicate, None, nat_lt};
-ghost use Rattle.array_store.specs.Array.{Written, array_entry, array_held, array_kept, array_lasting, array_taken};
+ghost use Rattle.array_store.specs.Array.{array_entry, array_kept, array_taken};
+ghost use Rattle.array_store.specs.inside.Rows.{SlotWritten, array_held, array_lasting};
 
 use stores::slots::{emptied, first_of};
 use stores::store::{NotTaken, Store};
@@ -39,7 +40,7 @@ impl<V: Copy> ArrayStore<V> {
         ensures answer { is_ok result ≡ array_taken self.old a }
         ensures refused { is_ok result ≡ false → self.new ≡ self.old }
         ensures made { is_ok result ≡ true → array_entry self.new a ≡ slot }
-        ensures written { Written self.old self.new a slot }
+        ensures written { SlotWritten self.old self.new a slot }
         ensures kept { array_kept self.old self.new }
     {
         if self.takes(a) {

@@ -3,7 +3,7 @@ use Rattle.std.proofs.Common.{◌≡◌, ℕ, ◌+◌, ◌*◌, ◌%◌, ◌^◌
 use Rattle.std.proofs.Math.Nat.{add-mod-mod, mod-add-mod}
 use Rattle.std.proofs.lemmas.Nat.{mul-mod_first}
 use Rattle.machine.specs.Values.{wrapped}
-use Rattle.board.specs.Memories.{weighted}
+use Rattle.board.specs.Runs.{weighted}
 
 joined : (ws : List ℕ) (i : ℕ) → weighted ws i + (i + 1) * slice_index ws i ≡ weighted ws (i + 1)
 joined ws i = rw add-one refl

@@ -1,4 +1,2 @@
-pub mod Listings
-pub mod Memories
 pub mod Runs
 pub mod Shown

@@ -1,6 +1,6 @@
 // A number that tells two memories apart, mostly.
 ghost use Rattle.std.specs.Prelude.{◌≡◌};
-ghost use Rattle.board.specs.Memories.{digest_of};
+ghost use Rattle.board.specs.Runs.{digest_of};
 
 // The sum of the words, each times its place counted from 1. It wraps as words do.
 #[tactic(auto, using(crate::proofs::Digests::one_more))]

@@ -4,7 +4,7 @@
 pub mod board;
 mod digest;
 mod listed;
-pub mod listing;
-pub mod memory;
+mod listing;
+mod memory;
 pub mod report;
 pub mod running;

@@ -1,7 +1,6 @@
 // Lists, as they are written.
 ghost use Rattle.std.specs.Prelude.{Some, flat_map};
-ghost use Rattle.board.specs.Listings.{local_word};
-ghost use Rattle.board.specs.Shown.{event_line};
+ghost use Rattle.board.specs.Shown.{event_line, local_word};
 
 use machine::event::Event;
 use machine::held::Held;
@@ -9,9 +8,9 @@ use std::fmt;
 
 // Events, a line each.
 #[derive(Clone, Copy)]
-pub(crate) struct Listed<'a>(pub(crate) &'a [Event]);
+pub(crate) struct EventLines<'a>(pub(crate) &'a [Event]);
 
-impl<'a> fmt::Display for Listed<'a> {
+impl<'a> fmt::Display for EventLines<'a> {
     ghost output = { λ l. Some (flat_map event_line l.0.now) };
 
     fn fmt<W: fmt::Write>(&self, f: &mut fmt::Formatter<W>) -> fmt::Result {

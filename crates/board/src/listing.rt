@@ -1,7 +1,11 @@
 // The lines that list what a run holds.
-ghost use Rattle.std.specs.Prelude.{◌≡◌, IfOk, string_bytes};
+ghost use Rattle.std.specs.Prelude.{◌≡◌, [], flat_map, length, reverse, IfOk, string_bytes};
+ghost use Rattle.std.specs.List.{slice_get};
+ghost use Rattle.std.specs.Option.{option_map_or};
 ghost use Rattle.module.specs.Modules.{said};
-ghost use Rattle.board.specs.Listings.{EntriesTold, Frames, FramesTold, Listed, entry_line, frame_line, frame_lines, line_at};
+ghost use Rattle.run_lines.specs.declared.line.RunLine.TheVariants as line;
+ghost use Rattle.board.specs.Runs.{AreLines, Ran};
+ghost use Rattle.board.specs.Shown.{entries_text, entry_line, frame_line, frames_text, held};
 
 use crate::board::Board;
 use crate::listed::Locals;
@@ -23,7 +27,7 @@ fn frame_line(heap: Global, frame: &Frame) -> Result<String, AllocError>
 
 // Nothing where no frame stands so far below the newest.
 fn line_at<S>(heap: Global, run: &Run<S>, k: usize) -> Result<String, AllocError>
-    ensures { IfOk result (λ s. string_bytes s ≡ line_at run.now.stack k) }
+    ensures { IfOk result (λ s. string_bytes s ≡ option_map_or frame_line (slice_get run.now.live.stack k) []) }
 {
     match run.frame(k) {
         Some(frame) => frame_line(heap, frame),
@@ -34,7 +38,7 @@ fn line_at<S>(heap: Global, run: &Run<S>, k: usize) -> Result<String, AllocError
 // The oldest first.
 #[tactic(auto, using(crate::proofs::Lines::one_frame))]
 fn frame_lines<S>(heap: Global, run: &Run<S>) -> Result<String, AllocError>
-    ensures { IfOk result (λ s. string_bytes s ≡ frame_lines run.now.stack) }
+    ensures { IfOk result (λ s. string_bytes s ≡ flat_map frame_line (reverse run.now.live.stack)) }
 {
     let depth = run.depth();
     let mut text = String::new(heap);
@@ -45,16 +49,24 @@ fn frame_lines<S>(heap: Global, run: &Run<S>) -> Result<String, AllocError>
     Ok(text)
 }
 
-fn list_frames<S>(heap: Global, run: &Run<S>) -> Result<Report, AllocError>
-    ensures { IfOk result (FramesTold run.now.stack) }
+fn frames_text<S>(heap: Global, run: &Run<S>) -> Result<String, AllocError>
+    ensures { IfOk result (λ s. string_bytes s ≡ frames_text run.now.live.stack) }
 {
     let lines = frame_lines(heap, run)?;
-    Ok(Report::Frames(run.depth(), lines))
+    let depth = run.depth();
+    format!(in heap; "frames {depth}\n{lines}")
+}
+
+#[tactic(auto, using(crate::proofs::Lines::listed))]
+fn list_frames<S>(heap: Global, run: &Run<S>) -> Result<Report, AllocError>
+    ensures { IfOk result (AreLines (frames_text run.now.live.stack)) }
+{
+    Ok(Report::Lines(frames_text(heap, run)?))
 }
 
 // Nothing where nothing is held.
 fn entry_line(heap: Global, a: u32, entry: Option<Marked>) -> Result<String, AllocError>
-    ensures { IfOk result (λ s. string_bytes s ≡ entry_line a entry) }
+    ensures { IfOk result (λ s. string_bytes s ≡ option_map_or (λ v. entry_line (a, v)) entry []) }
 {
     match entry {
         Some(value) => format!(in heap; "entry {a} {value}\n"),
@@ -62,9 +74,14 @@ fn entry_line(heap: Global, a: u32, entry: Option<Marked>) -> Result<String, All
     }
 }
 
+// The lines, and how many they are.
 #[tactic(auto, using(crate::proofs::Lines::below_is, crate::proofs::Lines::one_line, crate::proofs::Lines::one_held))]
-fn list_entries<S: Store<Entry = Marked>>(heap: Global, run: &Run<S>) -> Result<Report, AllocError>
-    ensures { IfOk result (EntriesTold (S.entry run.now.store) (said run.now.module).memory) }
+fn entry_lines<S: Store<Entry = Marked>>(
+    heap: Global,
+    run: &Run<S>,
+) -> Result<(u32, String), AllocError>
+    ensures count { IfOk result (λ p. p.0 ≡ length (held (S.entry run.now.live.store) (said run.now.module).memory)) }
+    ensures lines { IfOk result (λ p. string_bytes p.1 ≡ flat_map entry_line (held (S.entry run.now.live.store) (said run.now.module).memory)) }
 {
     let memory = run.module().memory();
     let mut count: u32 = 0;
@@ -75,23 +92,35 @@ fn list_entries<S: Store<Entry = Marked>>(heap: Global, run: &Run<S>) -> Result<
         let line = entry_line(heap, a, entry)?;
         text.push_str(line.as_str())?;
     }
-    Ok(Report::Entries(count, text))
+    Ok((count, text))
 }
 
-impl<S> Board<S> {
-    pub fn frames(&self, heap: Global) -> Result<Report, AllocError>
-        ensures { Frames self.now.run result }
+fn entries_text<S: Store<Entry = Marked>>(heap: Global, run: &Run<S>) -> Result<String, AllocError>
+    ensures { IfOk result (λ s. string_bytes s ≡ entries_text (S.entry run.now.live.store) (said run.now.module).memory) }
+{
+    let (count, lines) = entry_lines(heap, run)?;
+    format!(in heap; "entries {count}\n{lines}")
+}
+
+#[tactic(auto, using(crate::proofs::Lines::listed))]
+fn list_entries<S: Store<Entry = Marked>>(heap: Global, run: &Run<S>) -> Result<Report, AllocError>
+    ensures { IfOk result (AreLines (entries_text (S.entry run.now.live.store) (said run.now.module).memory)) }
+{
+    Ok(Report::Lines(entries_text(heap, run)?))
+}
+
+impl<S: Store<Entry = Marked>> Board<S> {
+    pub(crate) fn frames(&self, heap: Global) -> Result<Report, AllocError>
+        ensures { Ran S.entry S.taken S.kept self.now result self.now line.Frames }
     {
         match &self.run {
             Some(run) => list_frames(heap, run),
             None => Ok(Report::NoRun),
         }
     }
-}
 
-impl<S: Store<Entry = Marked>> Board<S> {
-    pub fn entries(&self, heap: Global) -> Result<Report, AllocError>
-        ensures { Listed S.entry self.now.run result }
+    pub(crate) fn entries(&self, heap: Global) -> Result<Report, AllocError>
+        ensures { Ran S.entry S.taken S.kept self.now result self.now line.Entries }
     {
         match &self.run {
             Some(run) => list_entries(heap, run),

@@ -2,7 +2,7 @@
 ghost use Rattle.std.specs.Prelude.{Some};
 ghost use Rattle.board.specs.Shown.{shown};
 
-use crate::listed::Listed;
+use crate::listed::EventLines;
 use machine::event::Event;
 use machine::gone::{Came, Gone};
 use machine::refusal::{NotReady, Refusal};
@@ -24,12 +24,10 @@ pub enum Report {
     Outside,
     Digest(u32),
     Stepped(Result<Event, Refusal>),
-    // A go that was refused, and one that was not, with the events of the steps that it made.
-    Refused(NotReady),
-    Went(Gone, Vec<Event>),
-    // How many, and the lines that tell of them.
-    Frames(usize, String),
-    Entries(u32, String),
+    // A go, with the events of the steps that it made; refused, it made none, and they aren't told.
+    Went(Result<Gone, NotReady>, Vec<Event>),
+    // The lines that tell of frames or entries.
+    Lines(String),
     Stands(Status),
 }
 
@@ -51,13 +49,13 @@ impl fmt::Display for Report {
                 let number = u32::from(*stop);
                 write!(f, "stopped {number}\n")
             }
-            Report::Stepped(Err(Refusal::NotReady(why))) | Report::Refused(why) => {
+            Report::Stepped(Err(Refusal::NotReady(why))) | Report::Went(Err(why), _) => {
                 let number = u32::from(*why);
                 write!(f, "refused {number}\n")
             }
-            Report::Went(gone, events) => {
+            Report::Went(Ok(gone), events) => {
                 let made = gone.made;
-                let lines = Listed(events.as_slice());
+                let lines = EventLines(events.as_slice());
                 match gone.came {
                     Came::Full => write!(f, "made {made} full\n{lines}"),
                     Came::Ended => write!(f, "made {made} ended\n{lines}"),
@@ -67,8 +65,7 @@ impl fmt::Display for Report {
                     }
                 }
             }
-            Report::Frames(count, lines) => write!(f, "frames {count}\n{lines}"),
-            Report::Entries(count, lines) => write!(f, "entries {count}\n{lines}"),
+            Report::Lines(lines) => write!(f, "{lines}"),
             Report::Stands(status) => write!(f, "{status}\n"),
         }
     }

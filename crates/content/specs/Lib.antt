@@ -1,3 +1,2 @@
 pub mod Records
-pub mod Faithful
-pub mod Words
+pub mod inside

@@ -1,6 +1,6 @@
 // A record of the list of functions: its ranges of instructions and of locals.
 ghost use Rattle.content.specs.Records.{function_from, function_words};
-ghost use Rattle.content.specs.Faithful.{function_faithful};
+ghost use Rattle.content.specs.inside.Faithful.{function_faithful};
 ghost use Rattle.std.proofs.Common.{rules};
 
 use records::record::Record;

@@ -1,6 +1,6 @@
 // A record of the list of globals: a type, repeated.
 ghost use Rattle.content.specs.Records.{global_from, global_words};
-ghost use Rattle.content.specs.Faithful.{global_faithful};
+ghost use Rattle.content.specs.inside.Faithful.{global_faithful};
 ghost use Rattle.std.proofs.Common.{rules};
 
 use records::record::Record;

@@ -1,6 +1,6 @@
 // A record of the list of code. x, y and z are locals of the function.
 ghost use Rattle.content.specs.Records.{instruction_from, instruction_words};
-ghost use Rattle.content.specs.Faithful.{instruction_faithful};
+ghost use Rattle.content.specs.inside.Faithful.{instruction_faithful};
 ghost use Rattle.std.proofs.Common.{rules};
 
 use records::record::Record;

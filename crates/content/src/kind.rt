@@ -1,6 +1,6 @@
 // A record of the list of types: what kind of type it is.
 ghost use Rattle.content.specs.Records.{kind_from, kind_words};
-ghost use Rattle.content.specs.Faithful.{kind_faithful};
+ghost use Rattle.content.specs.inside.Faithful.{kind_faithful};
 ghost use Rattle.std.proofs.Common.{rules};
 
 use records::record::Record;

@@ -1,6 +1,6 @@
 // A record of the list of fields or of locals: the number of its type.
 ghost use Rattle.content.specs.Records.{typed_from, typed_words};
-ghost use Rattle.content.specs.Faithful.{typed_faithful};
+ghost use Rattle.content.specs.inside.Faithful.{typed_faithful};
 ghost use Rattle.std.proofs.Common.{rules};
 
 use records::record::Record;

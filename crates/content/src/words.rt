@@ -1,13 +1,13 @@
 // Types and instructions in words.
 ghost use Rattle.std.specs.Prelude.{Some};
-ghost use Rattle.content.specs.Words.{kind_text, instruction_text};
+ghost use Rattle.content.specs.Records.{kind_row, instruction_row};
 
 use crate::instruction::Instruction;
 use crate::kind::Kind;
 use std::fmt;
 
 impl fmt::Display for Kind {
-    ghost output = { λ k. Some (kind_text k) };
+    ghost output = { λ k. Some (kind_row k).1 };
 
     fn fmt<W: fmt::Write>(&self, f: &mut fmt::Formatter<W>) -> fmt::Result {
         match self {
@@ -24,7 +24,7 @@ impl fmt::Display for Kind {
 }
 
 impl fmt::Display for Instruction {
-    ghost output = { λ i. Some (instruction_text i) };
+    ghost output = { λ i. Some (instruction_row i).1 };
 
     fn fmt<W: fmt::Write>(&self, f: &mut fmt::Formatter<W>) -> fmt::Result {
         match self {

@@ -1,5 +1,5 @@
 -- The numbers of the sensitive types, one after another.
-use Rattle.std.proofs.Common.{◌≡◌, ℕ, ◌+◌, ◌≤◌, Bool, false, List, ◌++◌, length, get_or, Decides, sym, ap, ◌∙◌, add-one, arith}
+use Rattle.std.proofs.Common.{◌≡◌, ℕ, ◌+◌, ◌≤◌, Bool, false, cond, codes, decimal, List, [], ◌++◌, String, string_bytes, refl, length, get_or, Decides, ap, ◌∙◌, add-one, arith}
 use Rattle.std.proofs.lemmas.List.{length-take}
 use Rattle.std.proofs.lemmas.Bool.Decides.{same_from_decides}
 use Rattle.sensitivity.specs.Sensitive.{Sensitive}
@@ -7,9 +7,12 @@ use Rattle.parts.specs.Content.{Content, viewed}
 use Rattle.parts.specs.declared.lists.Lists.{Lists}
 use Rattle.module.specs.Modules.{said}
 use Rattle.module.specs.declared.module.Module.{Module}
-use Rattle.desk.specs.Telling.{Listed, number_if, numbered}
+use Rattle.desk.specs.Heard.{IsText, ListedSo}
+use Rattle.desk.specs.Shown.{numbered}
+use Rattle.desk.specs.declared.told.Told.TheVariants.{Text}
+use Rattle.std.specs.declared.alloc.Global.{Global}
 
-pub one_more : (marks : List Bool) (t : ℕ) → numbered marks (t + 1) ≡ numbered marks t ++ number_if (get_or marks t false) t
+pub one_more : (marks : List Bool) (t : ℕ) → numbered marks (t + 1) ≡ numbered marks t ++ cond (get_or marks t false) (codes " " ++ decimal t) []
 one_more marks t = ap (numbered marks) (add-one t)
 
 module _ (m : Module) where
@@ -21,5 +24,8 @@ module _ (m : Module) where
       let few : m.parts.header.counts.types ≤ 64 = m.parts.header.few.few_types in
       omega (arith, ap (λ (k : Content). length k.types) is, length-take m.parts.header.counts.types m.parts.types)
 
-  pub listed_all : (l : Lists) (n : ℕ) (text : List ℕ) → viewed l ≡ said m → n ≡ length l.types.now → text ≡ numbered m.sensitive n → Listed (said m) text
-  listed_all l n text is all listed = record { marks = m.sensitive; right = m.right; text_is = listed ∙ ap (numbered m.sensitive) (all ∙ ap (λ (k : Content). length k.types) is) }
+  pub all_types : (l : Lists) (n : ℕ) (text : List ℕ) → viewed l ≡ said m → n ≡ length l.types.now → text ≡ numbered m.sensitive n → text ≡ numbered m.sensitive (length (said m).types)
+  all_types l n text is all listed = listed ∙ ap (numbered m.sensitive) (all ∙ ap (λ (k : Content). length k.types) is)
+
+  pub listed : (text : String Global) → string_bytes text ≡ codes "sensitive" ++ (numbered m.sensitive (length (said m).types) ++ codes "\n") → IsText (ListedSo (said m)) (Text text)
+  listed text told = (text, refl, (m.sensitive, m.right, told))

@@ -1,4 +1,2 @@
-pub mod Answers
-pub mod Runs
+pub mod Heard
 pub mod Shown
-pub mod Telling

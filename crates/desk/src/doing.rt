@@ -1,14 +1,16 @@
 // What the lines about modules do.
-ghost use Rattle.std.specs.Prelude.{◌≡◌, IfOk, MatchResult, false, replicate, slice_index_or, string_bytes, vec_items};
-ghost use Rattle.hex_bytes.specs.Hex.{bytes_of};
+ghost use Rattle.std.specs.Prelude.{◌≡◌, ◌++◌, [], codes, cond, decimal, length, IfOk, MatchResult, false, replicate, slice_index_or, string_bytes, vec_items, List, Result, ℕ};
+ghost use Rattle.hex_bytes.specs.Hex.{bytes_of, hex_of};
 ghost use Rattle.module.specs.Modules.{image as image_of, said};
-ghost use Rattle.desk.specs.Answers.{ListedSo};
-ghost use Rattle.desk.specs.Telling.{Listed, ReadSo, WroteOver, WroteSo, number_if};
+ghost use Rattle.desk.specs.Heard.{IsText, ListedSo, ReadSo, WroteSo};
+ghost use Rattle.desk.specs.Shown.{numbered, wrote_text};
 
 use crate::told::Told;
 use hex_bytes::hex::{bytes_of, hex_of};
+use module::fault::Refusal;
 use module::module::Module;
 use std::alloc::{AllocError, Global};
+use writing::TooShort;
 
 // What a byte holds that no image is written to.
 const UNWRITTEN: u8 = 165;
@@ -26,17 +28,32 @@ fn unwritten(heap: Global, len: u32) -> Result<Vec<u8>, AllocError>
     vec![in heap; UNWRITTEN; len as usize]
 }
 
-#[tactic(auto, using(crate::proofs::Writes::wrote_over))]
+fn wrote_text(
+    heap: Global,
+    answer: Result<usize, TooShort>,
+    hex: &str,
+) -> Result<String, AllocError>
+    ensures { IfOk result (λ s. string_bytes s ≡ wrote_text answer hex.now) }
+{
+    match answer {
+        Ok(len) => format!(in heap; "wrote {len}\nbytes {hex}\n"),
+        Err(short) => {
+            let refusal = Refusal::from(short);
+            format!(in heap; "refused {refusal}\nbytes {hex}\n")
+        }
+    }
+}
+
 fn write_over(heap: Global, held: &Module, bytes: &mut [u8]) -> Result<Told, AllocError>
-    ensures { IfOk result (λ t. WroteOver (image_of held.now) bytes.old t) }
+    ensures { IfOk result (IsText (WroteSo (image_of held.now) bytes.old)) }
 {
     let answer = held.write(bytes);
     let hex = hex_of(heap, bytes)?;
-    Ok(Told::Wrote(answer, hex))
+    Ok(Told::Text(wrote_text(heap, answer, hex.as_str())?))
 }
 
 pub(crate) fn write_image(heap: Global, held: &Module, len: u32) -> Result<Told, AllocError>
-    ensures { IfOk result (λ t. WroteSo (image_of held.now) len t) }
+    ensures { IfOk result (IsText (WroteSo (image_of held.now) (replicate len 165))) }
 {
     let mut bytes = unwritten(heap, len)?;
     write_over(heap, held, bytes.as_mut_slice())
@@ -45,7 +62,7 @@ pub(crate) fn write_image(heap: Global, held: &Module, len: u32) -> Result<Told,
 // The number of a sensitive type behind a blank, and nothing for another type.
 #[tactic(auto, using(crate::proofs::Counting::is_marked))]
 fn number_if(heap: Global, held: &Module, t: u32) -> Result<String, AllocError>
-    ensures { IfOk result (λ s. string_bytes s ≡ number_if (slice_index_or held.now.sensitive t false) t) }
+    ensures { IfOk result (λ s. string_bytes s ≡ cond (slice_index_or held.now.sensitive t false) (codes " " ++ decimal t) []) }
 {
     if held.is_sensitive(t) {
         format!(in heap; " {t}")
@@ -55,9 +72,9 @@ fn number_if(heap: Global, held: &Module, t: u32) -> Result<String, AllocError>
 }
 
 // The numbers of the sensitive types, each after a blank.
-#[tactic(auto, using(crate::proofs::Counting::few_types, crate::proofs::Counting::one_more, crate::proofs::Counting::listed_all))]
+#[tactic(auto, using(crate::proofs::Counting::few_types, crate::proofs::Counting::one_more, crate::proofs::Counting::all_types))]
 fn sensitive_types(heap: Global, held: &Module) -> Result<String, AllocError>
-    ensures { IfOk result (λ s. Listed (said held.now) (string_bytes s)) }
+    ensures { IfOk result (λ s. string_bytes s ≡ numbered held.now.sensitive (length (said held.now).types)) }
 {
     let types = held.lists().types.len() as u32;
     let mut text = String::new(heap);
@@ -69,8 +86,16 @@ fn sensitive_types(heap: Global, held: &Module) -> Result<String, AllocError>
     Ok(text)
 }
 
-pub(crate) fn list_sensitive(heap: Global, held: &Module) -> Result<Told, AllocError>
-    ensures { IfOk result (λ t. ListedSo held.now t) }
+fn sensitive_text(heap: Global, held: &Module) -> Result<String, AllocError>
+    ensures { IfOk result (λ s. string_bytes s ≡ codes "sensitive" ++ (numbered held.now.sensitive (length (said held.now).types) ++ codes "\n")) }
 {
-    Ok(Told::Sensitive(sensitive_types(heap, held)?))
+    let numbers = sensitive_types(heap, held)?;
+    format!(in heap; "sensitive{numbers}\n")
+}
+
+#[tactic(auto, using(crate::proofs::Counting::listed))]
+pub(crate) fn list_sensitive(heap: Global, held: &Module) -> Result<Told, AllocError>
+    ensures { IfOk result (IsText (ListedSo (said held.now))) }
+{
+    Ok(Told::Text(sensitive_text(heap, held)?))
 }

@@ -11,8 +11,7 @@ use Rattle.enterable.specs.declared.way.Way.{Way}
 use Rattle.enterable.specs.declared.way.Way.TheVariants.{Call, Address}
 use Rattle.enterable.specs.Enterable.{Enterable, first, called, taken, EnterableThrough}
 use Rattle.enterable.specs.First.{Leads}
-use Rattle.enterable.specs.Rounds.{Has, Right, ClosedAt, ClosedBelow, Grown}
-use Rattle.enterable.specs.Sets.{enters, enters_through}
+use Rattle.enterable.specs.inside.Rounds.{Has, Rightful, ClosedAt, ClosedBelow, Grown, enters, enters_through}
 
 differ : {b : Bool} → b ≡ false → b ≡ true → ⊥
 differ {b} p q = grind arith
@@ -84,7 +83,7 @@ module _ (c : Content) where
           zero = still_set s.all g 0 r.zero;
           all = λ k e. ⊎_elim (λ q. subst (Enterable c) (sym q) (taken f i x g (r.all f m) is)) (r.all k) (was_set s.all g k e);
           through = λ k e. ⊎_elim
-              (λ q. subst (EnterableThrough c) (sym q) (record { function = f; place = i; x = x; enterable = r.all f m; takes = is }))
+              (λ q. subst (EnterableThrough c) (sym q) (f, i, x, r.all f m, is))
               (r.through k) (was_set s.through g k e);
         };
         kept = λ k e. still_set s.all g k e;
@@ -97,7 +96,7 @@ module _ (c : Content) where
       }
 
   -- function 0 alone is right
-  pub first_right : Right c (record { all = set (replicate 64 false) 0 true; through = replicate 64 false })
+  pub first_right : Rightful c (record { all = set (replicate 64 false) 0 true; through = replicate 64 false })
   first_right =
       record {
         zero = refl;
@@ -105,7 +104,7 @@ module _ (c : Content) where
         through = λ k e. absurd (none_set 64 k e);
       }
 
-  module _ (s : EnterableFunctions) (few : (k : ℕ) → Enterable c k → k < 64) (r : Right c s) (closed : ClosedBelow c 64 s) where
+  module _ (s : EnterableFunctions) (few : (k : ℕ) → Enterable c k → k < 64) (r : Rightful c s) (closed : ClosedBelow c 64 s) where
     -- once nothing is new, all that can be entered is in the sets
     pub whole : {k : ℕ} → Enterable c k → enters s k ≡ true
     whole first = r.zero
@@ -113,4 +112,4 @@ module _ (c : Content) where
     whole (taken f i x g e is) = let m = whole e in (closed f (few f e) m i Address g (x, is)).0
 
     pub whole_through : (k : ℕ) → EnterableThrough c k → enters_through s k ≡ true
-    whole_through k t = let m = whole t.enterable in (closed t.function (few t.function t.enterable) m t.place Address k (t.x, t.takes)).1
+    whole_through k t = let m = whole t.3 in (closed t.0 (few t.0 t.3) m t.1 Address k (t.2, t.4)).1

@@ -11,9 +11,5 @@ pub data Enterable (c : Content) : ℕ → Type 0 where
   taken : (f i x g : ℕ) → Enterable c f → instruction_at c f i ≡ Some (op.Function x g) → Enterable c g
 
 -- function g can be entered through a pointer: a function that can be entered takes its address
-pub record EnterableThrough (c : Content) (g : ℕ) : Type 0 where
-  pub function : ℕ
-  pub place : ℕ
-  pub x : ℕ
-  pub enterable : Enterable c function
-  pub takes : instruction_at c function place ≡ Some (op.Function x g)
+abbrev pub EnterableThrough : Content → ℕ → Type 0
+EnterableThrough c g = (f i x : ℕ) × Enterable c f × (instruction_at c f i ≡ Some (op.Function x g))

@@ -1,4 +1,3 @@
 pub mod Enterable
 pub mod First
-pub mod Rounds
-pub mod Sets
+pub mod inside

@@ -1,9 +1,8 @@
 // Finding the functions that a run can enter, in rounds until nothing is new.
-ghost use Rattle.std.specs.Prelude.{◌≡◌, ℕ, ◌<◌, true, length, Decides};
+ghost use Rattle.std.specs.Prelude.{◌≡◌, ℕ, ◌<◌, true, false, length, slice_index_or, Decides};
 ghost use Rattle.module.specs.Modules.{said};
 ghost use Rattle.enterable.specs.Enterable.{Enterable, EnterableThrough};
-ghost use Rattle.enterable.specs.Rounds.{ClosedAt, ClosedOver, ClosedBelow, Grown};
-ghost use Rattle.enterable.specs.Sets.{enters, enters_through};
+ghost use Rattle.enterable.specs.inside.Rounds.{ClosedAt, ClosedOver, ClosedBelow, Grown, enters};
 
 use crate::functions::EnterableFunctions;
 use crate::places::count;
@@ -47,9 +46,9 @@ fn round(program: &Module, found: &mut EnterableFunctions) -> bool
 
 // Exactly the functions that a run of the module can enter.
 pub fn enterable(program: &Module) -> EnterableFunctions
-    ensures all { (k : ℕ) → Decides (enters result k) (∥ Enterable (said program.now) k ∥₁) }
-    ensures there { (k : ℕ) → enters result k ≡ true → k < length (said program.now).functions }
-    ensures through { (k : ℕ) → Decides (enters_through result k) (∥ EnterableThrough (said program.now) k ∥₁) }
+    ensures all { (k : ℕ) → Decides (slice_index_or result.all k false) (∥ Enterable (said program.now) k ∥₁) }
+    ensures there { (k : ℕ) → slice_index_or result.all k false ≡ true → k < length (said program.now).functions }
+    ensures through { (k : ℕ) → Decides (slice_index_or result.through k false) (∥ EnterableThrough (said program.now) k ∥₁) }
 {
     let mut found = EnterableFunctions::first();
     while round(program, &mut found) {}

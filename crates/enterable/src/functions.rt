@@ -1,6 +1,6 @@
 // The two sets of functions.
-ghost use Rattle.std.specs.Prelude.{◌≡◌, ◌<◌, true, false, not, ◌||◌, replicate, slice_set};
-ghost use Rattle.enterable.specs.Sets.{enters, enters_through};
+ghost use Rattle.std.specs.Prelude.{◌≡◌, ◌<◌, true, false, not, ◌||◌, replicate, slice_set, slice_index_or};
+ghost use Rattle.enterable.specs.inside.Rounds.{enters, enters_through};
 
 // The functions that a run can enter at all, and those that it can enter through a pointer: arrays as long as a module's
 // list of functions may be, since the board has no heap.
@@ -12,13 +12,13 @@ pub struct EnterableFunctions {
 
 impl EnterableFunctions {
     pub fn enters(&self, f: u32) -> bool
-        ensures { result ≡ enters self.now f }
+        ensures { result ≡ slice_index_or self.now.all f false }
     {
         self.all.get(f as usize).copied().unwrap_or(false)
     }
 
     pub fn enters_through(&self, f: u32) -> bool
-        ensures { result ≡ enters_through self.now f }
+        ensures { result ≡ slice_index_or self.now.through f false }
     {
         self.through.get(f as usize).copied().unwrap_or(false)
     }

@@ -1,2 +1,3 @@
 pub mod Slices
 pub mod Ordering
+pub mod Undoing

@@ -61,7 +61,7 @@ goes_on g came w = let ends = full came w in ap (λ (x : Sight). over x.state) e
 
 -- as many slices as there were to be
 pub ran_full : {m : Module} {s s' : Sight} (k each : ℕ) → over s'.state ≡ false → Sliced m s (k * each) s' → Ran m s (k * each) (k * each) s'
-ran_full {s' = s'} k each on p = record { steps = p.steps; last = s'; came = Full; makes = p.makes; count = p.count; ends = (refl, on, refl) }
+ran_full {s' = s'} k each on p = (p.steps, s', Full, p.makes, p.count, (refl, on, refl))
 
 -- with more room, and more steps before
 ends_so : (m : Module) (c : Came) (room n whole before : ℕ) (s s' : Sight) → (c ≡ Full → ⊥) → (n < room → before + n < whole) → Ends m c room n s s' → Ends m c whole (before + n) s s'
@@ -79,4 +79,4 @@ ran_short {m = m} {s'' = s''} {events = events} g slices k each same short lt is
     let most : (k + 1) * each ≤ slices * each = mul-le-mul_right each (omega (arith, lt)) in
     let one : k * each + each ≡ (k + 1) * each = next k each in
     let room : g.made < length events → k * each + g.made < slices * each = λ few. omega (arith, most, one, is, few) in
-    record { steps = all.steps; last = w.last; came = g.came; makes = all.makes; count = all.count; ends = ends_so m g.came (length events) g.made (slices * each) (k * each) w.last s'' short room w.ends }
+    (all.steps, w.last, g.came, all.makes, all.count, ends_so m g.came (length events) g.made (slices * each) (k * each) w.last s'' short room w.ends)

@@ -2,3 +2,4 @@ pub mod Answers
 pub mod Stores
 pub mod Runs
 pub mod Orders
+pub mod inside

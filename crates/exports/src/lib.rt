@@ -4,7 +4,8 @@
 ghost use Rattle.std.specs.Prelude.{◌≡◌, ◌*◌};
 ghost use Rattle.exports.specs.Answers.{Answered};
 ghost use Rattle.exports.specs.Runs.{HasBegun, HasRun, NotBegun, NotRun};
-ghost use Rattle.exports.specs.Orders.{HasObeyed, NotObeyed};
+ghost use Rattle.exports.specs.Stores.{NoStore};
+ghost use Rattle.exports.specs.Orders.{HasObeyed};
 
 use crate::obeying::obey;
 use crate::running::{begin, run};
@@ -27,7 +28,7 @@ pub extern "C" fn k4_run(
     events: u32,
     slices: u32,
 ) -> u64
-    ensures { Answered (λ n. HasRun image.now kind slots memory.old (slices * events) n memory.new) (λ u. NotRun image.now kind memory.old u × (memory.new ≡ memory.old)) result }
+    ensures { Answered (λ n. HasRun image.now kind slots memory.old (slices * events) n memory.new) (λ k. NotRun image.now kind memory.old k × (memory.new ≡ memory.old)) result }
 {
     match run(heap, image, kind, slots, memory, events, slices) {
         Ok(made) => made,
@@ -36,9 +37,10 @@ pub extern "C" fn k4_run(
 }
 
 // Reads an image, makes a store and begins a run. Answers how many frames stand.
+#[tactic(auto, using(crate::proofs::Undoing::not_begun))]
 #[unsafe(no_mangle)]
 pub extern "C" fn k4_begin(heap: Global, image: &[u8], kind: u32, slots: usize) -> u64
-    ensures { Answered (λ n. HasBegun image.now kind slots n) (λ u. NotBegun image.now kind u) result }
+    ensures { Answered (λ n. HasBegun image.now kind slots n) (λ k. NotBegun image.now kind k) result }
 {
     match begin(heap, image, kind, slots) {
         Ok(frames) => frames,
@@ -47,9 +49,10 @@ pub extern "C" fn k4_begin(heap: Global, image: &[u8], kind: u32, slots: usize) 
 }
 
 // Makes a store and does orders. Answers the sum of what was got.
+#[tactic(auto, using(crate::proofs::Undoing::no_store))]
 #[unsafe(no_mangle)]
 pub extern "C" fn k4_obey(heap: Global, kind: u32, slots: usize, orders: &[u32]) -> u64
-    ensures { Answered (λ n. HasObeyed kind slots orders.now n) (λ u. NotObeyed kind u) result }
+    ensures { Answered (λ n. HasObeyed kind slots orders.now n) (λ k. NoStore kind k) result }
 {
     match obey(heap, kind, slots, orders) {
         Ok(sum) => sum as u64,

@@ -1,6 +1,9 @@
 // Orders to a store: a word is 65,536 times 0 for get, 1 for put, else drop, and an address, at which a put writes code of that number.
-ghost use Rattle.std.specs.Prelude.{◌≡◌, MatchResult};
-ghost use Rattle.exports.specs.Orders.{Done, HasObeyed, NotObeyed, Obeyed, word_of};
+ghost use Rattle.std.specs.Prelude.{◌≡◌, ◌%◌, ◌/◌, MatchResult};
+ghost use Rattle.machine.specs.Values.{word, read};
+ghost use Rattle.exports.specs.Stores.{NoKind};
+ghost use Rattle.exports.specs.Orders.{Done, HasObeyed, Obeyed};
+ghost use Rattle.exports.specs.inside.Undoing.{Why};
 
 use crate::stores_made::{array, hash, window};
 use crate::undone::Undone;
@@ -12,7 +15,7 @@ const ADDRESSES: u32 = 65_536;
 
 // 0 where nothing was got.
 fn word_of(got: Option<Marked>) -> u32
-    ensures { result ≡ word_of got }
+    ensures { result ≡ word (read got 0) }
 {
     match got {
         Some(Marked::Code(word) | Marked::Data(word, _)) => word,
@@ -22,7 +25,7 @@ fn word_of(got: Option<Marked>) -> u32
 
 // Does an order, and answers the sum of what was got so far.
 fn order<S: Store<Entry = Marked>>(store: &mut S, sum: u32, word: u32) -> u32
-    ensures { Done S.entry S.taken word sum store.old result store.new }
+    ensures { Done S.entry S.taken (word / 65536) (word % 65536) sum store.old result store.new }
 {
     let a = word % ADDRESSES;
     match word / ADDRESSES {
@@ -50,7 +53,7 @@ fn obey_on<S: Store<Entry = Marked> + Drop>(mut store: S, orders: &[u32]) -> u32
 }
 
 pub(crate) fn obey(heap: Global, kind: u32, slots: usize, orders: &[u32]) -> Result<u32, Undone>
-    ensures { MatchResult result (λ n. HasObeyed kind slots orders.now n) (λ u. NotObeyed kind u) }
+    ensures { MatchResult result (λ n. HasObeyed kind slots orders.now n) (λ u. Why (λ f. ⊥) (NoKind kind) ⊥ u) }
 {
     match kind {
         0 => Ok(obey_on(array(heap, slots)?, orders)),

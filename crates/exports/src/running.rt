@@ -4,8 +4,10 @@ ghost use Rattle.module.specs.Follows.{Follows};
 ghost use Rattle.module.specs.Modules.{said};
 ghost use Rattle.machine.specs.Goes.{Ready};
 ghost use Rattle.runs.specs.Seen.{seen};
-ghost use Rattle.exports.specs.Answers.{Unread};
-ghost use Rattle.exports.specs.Runs.{BegunOn, HasBegun, HasRun, NotBegun, NotRun, Ran, RanOn};
+ghost use Rattle.module.specs.Refusals.{Refused};
+ghost use Rattle.exports.specs.Stores.{NoKind};
+ghost use Rattle.exports.specs.inside.Undoing.{OtherSize, Why};
+ghost use Rattle.exports.specs.Runs.{BegunOn, HasBegun, HasRun, Ran, RanOn};
 
 use crate::stores_made::{array, hash, window};
 use crate::undone::Undone;
@@ -18,7 +20,7 @@ use stores::store::Store;
 use values::marked::Marked;
 
 fn module_of(image: &[u8]) -> Result<Module, Undone>
-    ensures { MatchResult result (λ m. Follows image.now (said m)) (λ u. Unread image.now u) }
+    ensures { MatchResult result (λ m. Follows image.now (said m)) (λ u. Why (λ f. Refused image.now f) ⊥ ⊥ u) }
 {
     let mut module = Module::new();
     match module.read(image) {
@@ -75,7 +77,7 @@ pub(crate) fn run(
     events: u32,
     slices: u32,
 ) -> Result<u64, Undone>
-    ensures { MatchResult result (λ n. HasRun image.now kind slots memory.old (slices * events) n memory.new) (λ u. NotRun image.now kind memory.old u × (memory.new ≡ memory.old)) }
+    ensures { MatchResult result (λ n. HasRun image.now kind slots memory.old (slices * events) n memory.new) (λ u. Why (λ f. Refused image.now f) (NoKind kind) (OtherSize image.now memory.old) u × (memory.new ≡ memory.old)) }
 {
     let module = module_of(image)?;
     if memory.len() != module.memory() as usize {
@@ -101,7 +103,7 @@ fn begin_on<S: Store<Entry = Marked> + Drop>(store: S, program: &Module) -> u64
 }
 
 pub(crate) fn begin(heap: Global, image: &[u8], kind: u32, slots: usize) -> Result<u64, Undone>
-    ensures { MatchResult result (λ n. HasBegun image.now kind slots n) (λ u. NotBegun image.now kind u) }
+    ensures { MatchResult result (λ n. HasBegun image.now kind slots n) (λ u. Why (λ f. Refused image.now f) (NoKind kind) ⊥ u) }
 {
     let module = module_of(image)?;
     match kind {

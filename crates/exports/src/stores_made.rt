@@ -1,6 +1,5 @@
 // The stores that a caller can choose from, each on so many empty slots.
-ghost use Rattle.std.specs.Prelude.{◌≡◌, MatchResult};
-ghost use Rattle.exports.specs.Stores.{OfArray, OfHash, OfWindow};
+ghost use Rattle.std.specs.Prelude.{◌≡◌, None, replicate, MatchResult};
 ghost use Rattle.exports.specs.declared.undone.Undone.TheVariants.{Room};
 
 use crate::undone::Undone;
@@ -14,14 +13,14 @@ use window::Window;
 const BASE: u32 = 1000;
 
 pub(crate) fn array(heap: Global, slots: usize) -> Result<ArrayStore<Marked>, Undone>
-    ensures { MatchResult result (OfArray slots) (λ u. u ≡ Room) }
+    ensures { MatchResult result (λ s. s.slots.items ≡ replicate slots None) (λ u. u ≡ Room) }
 {
     let empty = vec![in heap; None; slots]?;
     Ok(ArrayStore::new(empty))
 }
 
 pub(crate) fn hash(heap: Global, slots: usize) -> Result<HashStore<Marked>, Undone>
-    ensures { MatchResult result (OfHash slots) (λ u. u ≡ Room) }
+    ensures { MatchResult result (λ s. s.slots.items ≡ replicate slots None) (λ u. u ≡ Room) }
 {
     let empty = vec![in heap; None; slots]?;
     Ok(HashStore::new(empty))
@@ -32,7 +31,7 @@ pub(crate) fn window(
     slots: usize,
     len: u32,
 ) -> Result<Window<HashStore<Marked>>, Undone>
-    ensures { MatchResult result (OfWindow len slots) (λ u. u ≡ Room) }
+    ensures { MatchResult result (λ w. (w.base ≡ 1000) × (w.len ≡ len) × (w.below.slots.items ≡ replicate slots None)) (λ u. u ≡ Room) }
 {
     Ok(Window::new(BASE, len, hash(heap, slots)?))
 }

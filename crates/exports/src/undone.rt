@@ -1,6 +1,6 @@
 // Why a call isn't done.
 ghost use Rattle.std.specs.Prelude.{◌≡◌, ◌-◌, ◌^◌};
-ghost use Rattle.exports.specs.Answers.{number_of};
+ghost use Rattle.exports.specs.inside.Undoing.{number_of};
 
 use module::fault::ModuleFault;
 use std::alloc::AllocError;

@@ -5,7 +5,7 @@ use Rattle.std.proofs.lemmas.Bool.{cases_lt}
 use Rattle.stores.specs.Slots.{counted}
 use Rattle.stores.proofs.Counted.{counted_length, counted_replicate}
 use Rattle.hash_store.specs.Holding.{SlotOf}
-use Rattle.hash_store.specs.Probing.{Sound, lookup, room, slot_at}
+use Rattle.hash_store.specs.inside.Probing.{Sound, lookup, room, slot_at}
 use Rattle.hash_store.proofs.Tables.{clear_held, clear_lookup, clear_sound}
 
 module _ {V : Type 0} where

@@ -1,6 +1,11 @@
-mod Around
+mod Closes
 pub mod Counts
 mod Empties
-mod Probes
-mod Shifts
+mod Lent
+mod Opens
+mod Orders
+mod Places
+mod Rings
+mod Searches
 mod Tables
+mod Writes

@@ -1,5 +1,4 @@
 pub mod Counting
-pub mod Hash
 pub mod Holding
-pub mod Places
-pub mod Probing
+pub mod Hash
+pub mod inside

@@ -1,19 +1,19 @@
-//! The hash store: any address stands in any slot, found by linear probing. Deletion shifts entries back, so that a call costs what is held now and not what was.
+//! The hash store: any address stands in any slot, found by linear probing in the order of homes. Deletion shifts entries back, so that a call costs what is held now and not what was.
 #![tactic(auto)]
 
-ghost use Rattle.std.specs.Prelude.{◌≡◌, ℕ, min, true, length, replicate, None, nat_lt};
-ghost use Rattle.hash_store.specs.Hash.{HashDropped, HashPut, hash_entry, hash_held, hash_taken};
-ghost use Rattle.hash_store.specs.Probing.{Sound};
-ghost use Rattle.hash_store.specs.Places.{Fits, Probed, Tells};
-ghost use Rattle.hash_store.specs.declared.probe.Place.TheVariants.{Held};
+ghost use Rattle.std.specs.Prelude.{◌≡◌, ◌<◌, ◌≤◌, ℕ, min, true, false, length, replicate, is_some, None, Some, nat_lt};
+ghost use Rattle.hash_store.specs.Hash.{hash_entry, hash_taken};
+ghost use Rattle.hash_store.specs.inside.Laws.{HashDropped, HashPut, hash_held};
+ghost use Rattle.hash_store.specs.inside.Probing.{Absent, Found, Sound, count};
 ghost use Rattle.stores.specs.Slots.{SlotsKept, counted, slots_chained, slots_same};
 
-use crate::probe::{Place, close, probe};
+use crate::probe::{close, find, has_room, open};
 use crate::slot::Slot;
 use stores::slots::{emptied, first_of};
 use stores::store::{NotTaken, Store};
 
 mod probe;
+mod ring;
 pub mod slot;
 
 // The same slots, each of them empty, as a store may have them.
@@ -52,41 +52,62 @@ impl<V: Copy> HashStore<V> {
     }
 
     // The slots that count, in a ring.
+    #[tactic(auto, using(stores::proofs::Counted::counted_length))]
     fn ring(&self) -> &[Slot<V>]
-        ensures { result.now ≡ counted self.now.slots.items }
+        ensures now { result.now ≡ counted self.now.slots.items }
+        ensures few { length result.now ≤ 65536 }
     {
         first_of(&self.slots)
     }
 
-    fn probe(&self, a: u32) -> Place
-        ensures place { Probed (counted self.now.slots.items) a result }
-        ensures tells { Tells (hash_entry self.now.slots.items) (length (counted self.now.slots.items)) a result }
+    // The slot that holds the address.
+    fn find(&self, a: u32) -> Option<usize>
+        ensures place { Found (counted self.now.slots.items) a result }
+        ensures tells { is_some result ≡ is_some (hash_entry self.now.slots.items a) }
     {
-        probe(self.ring(), a)
+        find(self.ring(), a)
     }
 
-    // The value in the slot that holds the address. What a probe found is asked of i and a: a type that keeps it would borrow the slots, which `write` and `remove` change.
+    // Whether an address that isn't held is taken: one slot is empty.
+    fn has_room(&self, a: u32) -> bool
+        ensures empty { result ≡ nat_lt (count (counted self.now.slots.items)) (length (counted self.now.slots.items)) }
+        ensures taken { is_some (hash_entry self.now.slots.items a) ≡ false → hash_taken self.now.slots.items a ≡ result }
+    {
+        has_room(self.ring(), a)
+    }
+
+    // The value in the slot that holds the address. What a search found is asked of i and a: a type that keeps it would borrow the slots, which `write` and `remove` change.
     fn value_in(&self, i: usize, a: u32) -> Option<V>
-        requires { Probed (counted self.now.slots.items) a (Held i) }
+        requires { Found (counted self.now.slots.items) a (Some i) }
         ensures { result ≡ hash_entry self.now.slots.items a }
     {
         let (_, v) = self.ring()[i]?;
         Some(v)
     }
 
-    // An entry into the slot that holds the address, or into an empty one if none holds it.
+    // An entry over the one that the slot holds for the address.
     fn write(&mut self, i: usize, a: u32, v: V)
-        requires { Fits (counted self.old.slots.items) a i }
-        ensures taken { hash_taken self.old.slots.items a ≡ true }
+        requires { Found (counted self.old.slots.items) a (Some i) }
         ensures put { HashPut self.old.slots.items self.new.slots.items a v }
         ensures kept { SlotsKept self.old.slots.items self.new.slots.items }
     {
         self.slots[i] = Some((a, v));
     }
 
+    // An entry for an address that no slot holds, while one slot is empty.
+    fn add(&mut self, a: u32, v: V)
+        requires absent { Absent (counted self.old.slots.items) a }
+        requires room { count (counted self.old.slots.items) < length (counted self.old.slots.items) }
+        ensures put { HashPut self.old.slots.items self.new.slots.items a v }
+        ensures kept { SlotsKept self.old.slots.items self.new.slots.items }
+    {
+        let n = self.ring().len();
+        open(&mut self.slots[0..n], a, v);
+    }
+
     // Empties the slot that holds the address.
     fn remove(&mut self, i: usize, a: u32)
-        requires { Probed (counted self.old.slots.items) a (Held i) }
+        requires { Found (counted self.old.slots.items) a (Some i) }
         ensures dropped { HashDropped self.old.slots.items self.new.slots.items a }
         ensures kept { SlotsKept self.old.slots.items self.new.slots.items }
     {
@@ -109,29 +130,27 @@ impl<V: Copy> Store for HashStore<V> {
     ghost lasting = { record { same = λ s. slots_same s.slots.items; chained = λ s t u. slots_chained s.slots.items t.slots.items u.slots.items } };
 
     fn get(&self, a: u32) -> Option<V> {
-        match self.probe(a) {
-            Place::Held(i) => self.value_in(i, a),
-            Place::Vacant(_) | Place::Full => None,
+        match self.find(a) {
+            Some(i) => self.value_in(i, a),
+            None => None,
         }
     }
 
     fn takes(&self, a: u32) -> bool {
-        match self.probe(a) {
-            Place::Held(_) | Place::Vacant(_) => true,
-            Place::Full => false,
-        }
+        self.find(a).is_some() || self.has_room(a)
     }
 
     fn put(&mut self, a: u32, v: V) -> Result<(), NotTaken> {
-        let (Place::Held(i) | Place::Vacant(i)) = self.probe(a) else {
-            return Err(NotTaken);
-        };
-        self.write(i, a, v);
+        match self.find(a) {
+            Some(i) => self.write(i, a, v),
+            None if self.has_room(a) => self.add(a, v),
+            None => return Err(NotTaken),
+        }
         Ok(())
     }
 
     fn drop(&mut self, a: u32) {
-        if let Place::Held(i) = self.probe(a) {
+        if let Some(i) = self.find(a) {
             self.remove(i, a);
         }
     }

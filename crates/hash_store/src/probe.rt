@@ -1,82 +1,131 @@
-// Slots in a ring: an address is looked for from its home slot on.
-ghost use Rattle.std.specs.Prelude.{◌≡◌, ◌<◌, ◌≤◌, length};
-ghost use Rattle.hash_store.specs.Probing.{Closed, Sound, away, home_of, ring};
-ghost use Rattle.hash_store.specs.Places.{Probed};
+// Slots in a ring: an address is looked for from its home on, put in the order of homes, and taken out with what stands behind it moved back.
+ghost use Rattle.std.specs.Prelude.{◌≡◌, ◌<◌, ◌≤◌, length, nat_lt};
+ghost use Rattle.hash_store.specs.Holding.{has};
+ghost use Rattle.hash_store.specs.inside.Probing.{Absent, Closed, Fits, Found, Opened, Ordered, Single, Sound, count};
 
+use crate::ring::Ring;
 use crate::slot::Slot;
 
-// Places in a ring, of which there is one at least.
-#[derive(Clone, Copy)]
-struct Ring {
-    n: usize,
-    ghost some: { 0 < n },
-    ghost few: { n ≤ 65536 },
+// How many slots are looked at together.
+const SPAN: usize = 6;
+
+// Whether the slot holds the address.
+fn holds<V: Copy>(slot: Slot<V>, a: u32) -> bool
+    ensures { result ≡ has slot a }
+{
+    match slot {
+        Some((k, _)) => k == a,
+        None => false,
+    }
 }
 
-impl Ring {
-    // Where an address is first looked for.
-    fn home(self, a: u32) -> usize
-        ensures { (result ≡ home_of a self.n) × (result < self.n) }
-    {
-        a as usize % self.n
-    }
-
-    // The place d places on from h.
-    fn along(self, h: usize, d: usize) -> usize
-        requires { (h < self.n) × (d < self.n) }
-        ensures { (result ≡ ring h d self.n) × (result < self.n) }
-    {
-        if h + d < self.n {
-            h + d
-        } else {
-            h + d - self.n
+// Which of some slots holds the address. All are looked at, and the place is added up: this leaves the processor nothing to guess, and at a high load a wrong guess takes longer than a look at all.
+fn holder<V: Copy>(slots: &[Slot<V>], a: u32) -> Option<usize>
+    requires single { Single slots.now }
+    ensures { Found slots.now a result }
+{
+    let mut at = 0;
+    // Over places, and not over slots: the place is the answer.
+    for i in 0..slots.len() {
+        if holds(slots[i], a) {
+            at += i + 1;
         }
     }
-
-    // How many places on from h the place j is.
-    fn distance(self, h: usize, j: usize) -> usize
-        requires { (h < self.n) × (j < self.n) }
-        ensures { result ≡ away h j self.n }
-    {
-        if j < h { j + self.n - h } else { j - h }
-    }
+    if at == 0 { None } else { Some(at - 1) }
 }
 
-// Where a probe for an address ends: one of three, which an `Option` of a `Result` would name worse.
-#[derive(Clone, Copy)]
-pub(crate) enum Place {
-    // At the slot that holds it.
-    Held(usize),
-    // At the first empty slot: no slot holds it.
-    Vacant(usize),
-    // Nowhere: no slot holds it, and none is empty.
-    Full,
-}
-
-pub(crate) fn probe<V: Copy>(slots: &[Slot<V>], a: u32) -> Place
+// The slot that holds the address.
+pub(crate) fn find<V: Copy>(slots: &[Slot<V>], a: u32) -> Option<usize>
     requires small { length slots.now ≤ 65536 }
     requires sound { Sound slots.now }
-    ensures { Probed slots.now a result }
+    ensures { Found slots.now a result }
 {
-    if slots.is_empty() {
-        return Place::Full;
+    if slots.len() < SPAN {
+        return holder(slots, a);
     }
     let places = Ring { n: slots.len() };
-    let h = places.home(a);
-    // Over places, and not over slots: the place is the answer.
-    for i in (h..places.n).chain(0..h) {
-        let slot = slots[i];
-        let Some((k, _)) = slot else {
-            return Place::Vacant(i);
-        };
-        if k == a {
-            return Place::Held(i);
+    let mut i = places.home(a);
+    let mut d = 0;
+    // No `for` over a range: the place goes round, and the distance is asked for.
+    while d < places.n {
+        // As many slots each time, some of them looked at already where the ring ends.
+        let start = i.min(places.n - SPAN);
+        let end = start + SPAN;
+        if let Some(j) = holder(&slots[start..end], a) {
+            return Some(start + j);
         }
+        d += end - i;
+        if places.is_nearer(end - 1, slots[end - 1], d) {
+            return None;
+        }
+        i = places.round(end);
     }
-    Place::Full
+    None
 }
 
-// Empties the slot i. The entries behind it that passed it on their way from home move back.
+// Whether a slot is empty.
+#[tactic(auto, using(crate::proofs::Tables::count_all, crate::proofs::Tables::count_lt))]
+fn has_empty<V: Copy>(slots: &[Slot<V>]) -> bool
+    ensures { result ≡ nat_lt (count slots.now) (length slots.now) }
+{
+    for slot in slots {
+        if slot.is_none() {
+            return true;
+        }
+    }
+    false
+}
+
+// The same, looked for from the address's home on, where an empty one is near.
+pub(crate) fn has_room<V: Copy>(slots: &[Slot<V>], a: u32) -> bool
+    requires small { length slots.now ≤ 65536 }
+    ensures { result ≡ nat_lt (count slots.now) (length slots.now) }
+{
+    if slots.is_empty() {
+        return false;
+    }
+    let h = Ring { n: slots.len() }.home(a);
+    has_empty(&slots[h..]) || has_empty(&slots[..h])
+}
+
+// Where an entry for the address goes: before the first that is nearer to its home.
+fn place_for<V: Copy>(slots: &[Slot<V>], a: u32) -> usize
+    requires small { length slots.now ≤ 65536 }
+    requires ordered { Ordered (length slots.now) slots.now }
+    requires room { count slots.now < length slots.now }
+    ensures { Fits (length slots.now) slots.now a result }
+{
+    let places = Ring { n: slots.len() };
+    let mut i = places.home(a);
+    let mut d = 0;
+    while !places.is_nearer(i, slots[i], d + 1) {
+        i = places.next(i);
+        d += 1;
+    }
+    i
+}
+
+// Puts an entry where it goes. Those behind it move on by one, up to an empty slot.
+pub(crate) fn open<V: Copy>(slots: &mut [Slot<V>], a: u32, v: V)
+    requires small { length slots.old ≤ 65536 }
+    requires sound { Sound slots.old }
+    requires room { count slots.old < length slots.old }
+    requires absent { Absent slots.old a }
+    ensures opened { Opened slots.old slots.new a v }
+    ensures long { length slots.new ≡ length slots.old }
+{
+    let places = Ring { n: slots.len() };
+    let mut i = place_for(slots, a);
+    let mut entry = (a, v);
+    while let Some(pushed) = slots[i] {
+        slots[i] = Some(entry);
+        entry = pushed;
+        i = places.next(i);
+    }
+    slots[i] = Some(entry);
+}
+
+// Empties the slot i. Those behind it move back by one, up to an empty slot or an entry at its home.
 pub(crate) fn close<V: Copy>(slots: &mut [Slot<V>], i: usize)
     requires inside { i < length slots.old }
     requires small { length slots.old ≤ 65536 }
@@ -86,18 +135,14 @@ pub(crate) fn close<V: Copy>(slots: &mut [Slot<V>], i: usize)
 {
     let places = Ring { n: slots.len() };
     let mut hole = i;
-    let mut gap = 1;
-    // No `for` over a range: the count of places starts anew each time that the hole moves.
-    while gap < places.n {
-        let j = places.along(hole, gap);
-        let Some((k, v)) = slots[j] else { break };
-        if places.distance(places.home(k), j) < gap {
-            gap += 1;
-        } else {
-            slots[hole] = Some((k, v));
-            hole = j;
-            gap = 1;
+    loop {
+        let next = places.next(hole);
+        let Some((k, v)) = slots[next] else { break };
+        if places.is_home(k, next) {
+            break;
         }
+        slots[hole] = Some((k, v));
+        hole = next;
     }
     slots[hole] = None;
 }

@@ -1,3 +1,4 @@
+-- What the front of an image says, and where its lists start.
 use Rattle.std.specs.Prelude.{◌≡◌, ℕ, ◌+◌, ◌*◌, ◌<◌, ◌≤◌, Bool, true, false, ◌&&◌, List, length, ◌==◌, ◌≢◌, nat_le}
 use Rattle.records.specs.Words.{word_at}
 use Rattle.header.specs.declared.counts.Counts.{Counts}

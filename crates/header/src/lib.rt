@@ -3,5 +3,6 @@
 
 pub mod counts;
 pub mod fault;
+pub mod front;
 pub mod header;
 pub mod starts;

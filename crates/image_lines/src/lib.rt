@@ -1,5 +1,4 @@
 //! The lines of a replay script about modules, read into what they ask for.
 #![tactic(auto)]
 
-pub mod fault;
 pub mod line;

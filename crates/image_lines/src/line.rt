@@ -1,12 +1,14 @@
 // A line about modules, read into what it asks for.
-ghost use Rattle.std.specs.Prelude.{◌≡◌};
+ghost use Rattle.std.specs.Prelude.{◌≡◌, ◌∷◌};
 ghost use Rattle.std.specs.Option.{option_map};
+ghost use Rattle.std.specs.Result.{result_map_both};
 ghost use Rattle.words.specs.Words.{words as split};
-ghost use Rattle.image_lines.specs.Asks.{alone, asked_words, heard_image, image_words, verb_words, write_words};
+ghost use Rattle.words.specs.Forms.{ends, number, part, read};
+ghost use Rattle.image_lines.specs.Asks.{asked, bytes, modules};
 ghost use Rattle.image_lines.specs.Asks as asks;
 
-use crate::fault::ImageFault;
 use hex_bytes::hex::is_hex;
+use words::fault::Fault;
 use words::words::Words;
 
 // The most bytes that a module may be written to.
@@ -21,52 +23,57 @@ pub enum ImageLine<'a> {
     Sensitive,
 }
 
-#[tactic(auto, unfolding(crate::specs::Asks::image_words))]
-fn image<'a>(words: &mut Words<'a>) -> Result<ImageLine<'a>, ImageFault>
-    ensures { heard_image result ≡ image_words words.old }
+#[tactic(auto, unfolding(crate::specs::Asks::bytes, words::specs::Forms::ends))]
+fn image<'a>(words: &mut Words<'a>) -> Result<ImageLine<'a>, Fault>
+    ensures { result_map_both asked (λ e. e) result ≡ bytes words.old }
 {
     let Some(digits) = words.next() else {
         return Ok(ImageLine::Image(&[]));
     };
     if !is_hex(digits) {
-        return Err(ImageFault::Hex);
+        return Err(Fault::Hex);
     }
     words.end()?;
     Ok(ImageLine::Image(digits))
 }
 
-#[tactic(auto, unfolding(crate::specs::Asks::write_words))]
-fn write<'a>(words: &mut Words<'a>) -> Result<ImageLine<'a>, ImageFault>
-    ensures { heard_image result ≡ write_words words.old }
+#[tactic(auto, unfolding(words::specs::Forms::number, words::specs::Forms::ends))]
+fn write<'a>(words: &mut Words<'a>) -> Result<ImageLine<'a>, Fault>
+    ensures { result_map_both asked (λ e. e) result ≡ part asks.write (number 65536 ends) words.old }
 {
     let bytes = words.number(MOST_BYTES)?;
     words.end()?;
     Ok(ImageLine::Write(bytes))
 }
 
-fn sensitive<'a>(words: &mut Words<'a>) -> Result<ImageLine<'a>, ImageFault>
-    ensures { heard_image result ≡ alone asks.sensitive words.old }
+#[tactic(auto, unfolding(words::specs::Forms::ends))]
+fn sensitive<'a>(words: &mut Words<'a>) -> Result<ImageLine<'a>, Fault>
+    ensures { result_map_both asked (λ e. e) result ≡ ends asks.sensitive words.old }
 {
     words.end()?;
     Ok(ImageLine::Sensitive)
 }
 
 // The verb is read before it is known who reads the other words, so that both are handed on.
-#[tactic(auto, unfolding(crate::specs::Asks::verb_words))]
-fn asked<'a>(verb: &[u8], words: &mut Words<'a>) -> Option<Result<ImageLine<'a>, ImageFault>>
-    ensures { option_map heard_image result ≡ verb_words verb.now words.old }
+#[tactic(auto, unfolding(words::specs::Forms::read))]
+fn asked<'a>(verb: &[u8], words: &mut Words<'a>) -> Option<Result<ImageLine<'a>, Fault>>
+    ensures { option_map (result_map_both asked (λ e. e)) result ≡ read modules (verb.now ∷ words.old) }
 {
-    match verb {
-        b"image" => Some(image(words)),
-        b"write" => Some(write(words)),
-        b"sensitive" => Some(sensitive(words)),
-        _ => None,
+    if verb == b"image".as_slice() {
+        Some(image(words))
+    } else if verb == b"write".as_slice() {
+        Some(write(words))
+    } else if verb == b"sensitive".as_slice() {
+        Some(sensitive(words))
+    } else {
+        None
     }
 }
 
 // What the line asks for, or nothing where it isn't about modules.
-pub fn parse(line: &[u8]) -> Option<Result<ImageLine, ImageFault>>
-    ensures { option_map heard_image result ≡ asked_words (split line.now) }
+#[tactic(auto, unfolding(words::specs::Forms::read))]
+pub fn parse(line: &[u8]) -> Option<Result<ImageLine, Fault>>
+    ensures { option_map (result_map_both asked (λ e. e)) result ≡ read modules (split line.now) }
 {
     let mut words = Words::of(line);
     let verb = words.next()?;

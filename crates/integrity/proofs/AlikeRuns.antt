@@ -1,5 +1,5 @@
 -- Two histories whose decisions agree: they enter the same functions, and the stores hold the same within the memory.
-use Rattle.std.proofs.Common.{◌≡◌, refl, sym, ap, ◌∙◌, ℕ, zero, suc, ◌<◌, ◌≤◌, inl, inr, Bool, true, false, cond, List, [], ◌∷◌, length, map, take, Some, None, Ok, Option, arith}
+use Rattle.std.proofs.Common.{◌≡◌, refl, sym, ap, ◌∙◌, ℕ, zero, suc, ◌<◌, ◌≤◌, inl, inr, Bool, true, false, cond, List, [], ◌∷◌, length, map, filter, take, Some, None, Ok, Option, arith}
 use Rattle.std.specs.List.{slice_get}
 use Rattle.std.proofs.lemmas.Bool.Decides.{eqb_tells}
 use Rattle.stores.specs.Meaning.{OthersStay}
@@ -11,7 +11,8 @@ use Rattle.machine.specs.declared.event.Event.{Event}
 use Rattle.machine.specs.Events.{decides, enters}
 use Rattle.machine.specs.Machine.{Entries, Taken, Sight, Act, keeps, puts, drops, Acts, Left, Does, Step, instruction}
 use Rattle.machine.specs.Goes.{Made, made}
-use Rattle.integrity.specs.Histories.{decisions, entered_by, Agree, held_from}
+use Rattle.integrity.specs.Histories.{decisions, entered_by, Agree}
+use Rattle.integrity.proofs.Held.{held_from}
 use Rattle.integrity.specs.Integrity.{Begun, Alike}
 use Rattle.integrity.proofs.Runs.{Quiet, Runs, rest, quiet, step, turned}
 use Rattle.integrity.proofs.AlikeFrames.{Shape, shape, Low, low_entered}
@@ -65,19 +66,33 @@ module _ (m : Module) where
       let k = make_both m s t c.frame c'.frame c.others c'.others al c.stack_is c'.stack_is c.instr e e' c.answer (rw i c'.answer) d in
       (let a = k.answer in let b = c.answer in let b' = c'.answer in cc, does_alike s t s' t' _ _ e e' al c.does (rw i c'.does) k)
 
+-- the events that enter a function
+abbrev enterings : List Made → List Event
+enterings h = filter (λ e. enters e.kind) (map (λ d. d.event) h)
+
 agree_none : {X : Type 0} (xs : List X) → Agree xs []
-agree_none [] = tt
-agree_none (x ∷ xs) = tt
+agree_none [] = refl
+agree_none (x ∷ xs) = refl
+
+none_agrees : {X : Type 0} (ys : List X) → Agree [] ys
+none_agrees [] = refl
+none_agrees (y ∷ ys) = refl
+
+agree_head : {X : Type 0} (x y : X) (xs ys : List X) → Agree (x ∷ xs) (y ∷ ys) → x ≡ y
+agree_head x y xs ys ag = cc
+
+agree_tail : {X : Type 0} (x y : X) (xs ys : List X) → Agree (x ∷ xs) (y ∷ ys) → Agree xs ys
+agree_tail x y xs ys ag = cc
 
 agree_decide : (e e' : Event) (ds ds' : List Event) → Agree (cond (decides e.kind) (e ∷ ds) ds) (cond (decides e'.kind) (e' ∷ ds') ds') → SameDecision e e'
-agree_decide e e' ds ds' ag p p' = let both = rw (p, p') at ag in both.0
+agree_decide e e' ds ds' ag p p' = agree_head e e' ds ds' (rw (p, p') at ag)
 
 agree_rest : {X : Type 0} (b : Bool) (x : X) (xs ys : List X) → Agree (cond b (x ∷ xs) xs) (cond b (x ∷ ys) ys) → Agree xs ys
-agree_rest true x xs ys ag = ag.1
+agree_rest true x xs ys ag = agree_tail x x xs ys ag
 agree_rest false x xs ys ag = ag
 
-agree_more : {X : Type 0} (b : Bool) (x : X) (xs ys : List X) → Agree xs ys → Agree (cond b (x ∷ xs) xs) (cond b (x ∷ ys) ys)
-agree_more true x xs ys ag = (refl, ag)
+agree_more : (b : Bool) (x : Event) (xs ys : List Event) → Agree (map (λ e. e.word) xs) (map (λ e. e.word) ys) → Agree (map (λ e. e.word) (cond b (x ∷ xs) xs)) (map (λ e. e.word) (cond b (x ∷ ys) ys))
+agree_more true x xs ys ag = ap (λ zs. x.word ∷ zs) ag
 agree_more false x xs ys ag = ag
 
 -- after as many steps the stores hold the same below n
@@ -128,12 +143,12 @@ module _ (m : Module) where
       let k = step_alike m s t s' t' e e' al p p' (agree_decide e e' (decisions h) (decisions h') ag) in
       let ag' : Agree (decisions h) (decisions h') = agree_rest (decides e.kind) e (decisions h) (decisions h') (rw (← k.0) at ag) in
       let n = next t' t'' h' r k.1 ag' in (
-        rw (← k.0) (agree_more (enters e.kind) e.word (entered_by h) (entered_by h') n.0),
+        rw (← k.0) (agree_more (enters e.kind) e (enterings h) (enterings h') n.0),
         hold_more (said m).memory s.entries t.entries (made s e s') (made t e' t') h h' al.held n.1,
       )
 
   pub runs_alike : {s s'' : Sight} {h : List Made} → Runs m s h s'' → (t t'' : Sight) (h' : List Made) → Runs m t h' t'' → AlikeRun m s t → Agree (decisions h) (decisions h') → Concludes s t h h'
-  runs_alike {s} rest t t'' h' r' al ag = (tt, hold_none (said m).memory s.entries t.entries h' al.held)
+  runs_alike {s} rest t t'' h' r' al ag = (none_agrees (entered_by h'), hold_none (said m).memory s.entries t.entries h' al.held)
   runs_alike (quiet q r) t t'' h' r' al ag = let k = runs_alike r t t'' h' r' (quiet_left t q al) ag in rw q.entries at k
   runs_alike {s} (step {s' = s'} {h = h} e p r) t t'' h' r' al ag = step_against s s' e h (runs_alike r) p r' al ag
 

@@ -19,7 +19,9 @@ use Rattle.machine.specs.declared.refusal.Stop.TheVariants.{Address, NotData, Ou
 use Rattle.machine.specs.Values.{word, with_word, read, wrapped}
 use Rattle.machine.specs.Frames.{entered, value}
 use Rattle.machine.specs.Events.{event, other}
-use Rattle.machine.specs.Machine.{Sight, Act, keeps, puts, drops, sensitive, size, kept, at_place, behind, given, stops, makes, gives, goes, writes, enter, enter_through, leave, allocate, move, field_within, load_within, keep, store_within, make}
+use Rattle.machine.specs.Machine.{Sight, Act, keeps, puts, drops, sensitive, size, at_place, given, stops, makes, gives, goes, writes, enter, enter_through, leave, allocate, move, field_within, load_within, keep, make}
+use Rattle.machine.specs.inside.Parts.{behind, store_within}
+use Rattle.machine.specs.inside.Parts.{kept}
 use Rattle.machine.proofs.Bounding.{within_parts}
 use Rattle.integrity.proofs.Each.{each_set}
 use Rattle.integrity.proofs.Sizes.{start_within}

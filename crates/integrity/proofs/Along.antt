@@ -8,7 +8,7 @@ use Rattle.module.specs.declared.module.Module.{Module}
 use Rattle.machine.specs.declared.event.Event.{Event}
 use Rattle.machine.specs.Machine.{Entries, Sight, Step}
 use Rattle.machine.specs.Goes.{Made, made}
-use Rattle.integrity.specs.Histories.{held_from}
+use Rattle.integrity.proofs.Held.{held_from}
 use Rattle.integrity.proofs.Runs.{Quiet, Runs, rest, quiet, step}
 
 -- the fact at the end, and what is told of each step, with the history before it

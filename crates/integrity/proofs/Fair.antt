@@ -10,7 +10,8 @@ use Rattle.machine.specs.declared.value.Value.TheVariants.{Plain, Marked}
 use Rattle.machine.specs.declared.frame.Frame.{Frame}
 use Rattle.machine.specs.Values.{word, with_word, data_in, read}
 use Rattle.machine.specs.Frames.{entered, value}
-use Rattle.machine.specs.Machine.{Entries, Sight, at_place, kept, given, sensitive}
+use Rattle.machine.specs.Machine.{Entries, Sight, at_place, given, sensitive}
+use Rattle.machine.specs.inside.Parts.{kept}
 use Rattle.machine.specs.Goes.{Made}
 use Rattle.integrity.specs.Histories.{Name, global, block, Object, Known}
 use Rattle.integrity.specs.Integrity.{Begun}
@@ -65,10 +66,10 @@ with_word_known m h (Marked w) n k = absurd (k w refl)
 -- what stood before stays known
 object_more : (m : Module) (h : List Made) (d : Made) (o : Name) (low high : ℕ) → Object m h o low high → Object m (h ++ d ∷ []) o low high
 object_more m h d (global k) low high p = p
-object_more m h d (block n) low high p = record { step = p.step; at = get_more h d n p.step p.at; allocated = p.allocated }
+object_more m h d (block n) low high p = (p.0, get_more h d n p.0 p.1, p.2)
 
 pub known_more : (m : Module) (h : List Made) (d : Made) (v : Mark) → Known m h v → Known m (h ++ d ∷ []) v
-known_more m h d (Code g) k = record { n = k.n; step = k.step; at = get_more h d k.n k.step k.at; took = k.took }
+known_more m h d (Code g) k = (k.0, k.1, k.2, k.3, get_more h d k.0 k.1 k.4, k.5)
 known_more m h d (Data w b) k = (k.0, object_more m h d k.0 b.low b.high k.1)
 
 pub value_there : (f : Frame) (x : ℕ) (v : Mark) → value f x ≡ Marked v → slice_get f.locals x ≡ Some (Marked v)

@@ -13,9 +13,12 @@ use Rattle.machine.specs.declared.value.Value.{Value}
 use Rattle.machine.specs.declared.value.Value.TheVariants.{Marked}
 use Rattle.machine.specs.declared.frame.Frame.{Frame}
 use Rattle.machine.specs.declared.event.Event.{Event}
-use Rattle.machine.specs.Values.{word, bounds_of, data_in, within}
+use Rattle.machine.specs.Values.{word, bounds_of, data_in}
+use Rattle.machine.specs.inside.Parts.{within}
 use Rattle.machine.specs.Frames.{value}
-use Rattle.machine.specs.Machine.{State, Entries, Taken, Sight, Act, Acts, Left, Step, behind, sensitive, size, start_of, bounds}
+use Rattle.machine.specs.Machine.{State, Entries, Taken, Sight, Act, Acts, Left, Step, sensitive, size, start_of}
+use Rattle.machine.specs.inside.Parts.{behind}
+use Rattle.machine.proofs.Parts.{bounds}
 use Rattle.machine.specs.Goes.{Made, made}
 use Rattle.machine.proofs.Bounding.{bounds_are, within_parts}
 use Rattle.integrity.specs.Histories.{Did, global, block, Known}
@@ -58,10 +61,10 @@ module _ (m : Module) (h : List Made) (s : Sight) (f : Frame) (rest : List Frame
       let c = said m in
       let p = bounds_are (start_of c.types c.globals g) (start_of c.types c.globals (g + 1)) b e in
       let there : g < length c.globals = ⊎_elim (λ l. l) (λ l. absurd (omega (arith, p.2, start_behind c.types c.globals g l, start_behind c.types c.globals (g + 1) (omega (arith, l))))) (cases_lt g (length c.globals)) in
-      (global g, record { there = there; low_is = p.0; high_is = p.1 })
+      (global g, (there, p.0, p.1))
 
   gives_known : Ending m h → {i : Instruction} {e : Event} {x : ℕ} {v : Value} → Gives m s f rest i e x v → Did m d f i → KnownValue m (h ++ d ∷ []) v
-  gives_known ending (address x g) did = marked_known m _ (Code g) (record { n = length h; step = d; at = get_last h d; took = record { frame = f; x = x; did = did } })
+  gives_known ending (address x g) did = marked_known m _ (Code g) (length h, d, f, x, get_last h d, did)
   gives_known ending (named x g) did = data_known m _ (bounds m s f rest g) _ (λ b q. global_known g (start_of (said m).types (said m).globals g) b q)
   gives_known ending (moved x y z w b is) did = marked_known m _ (Data _ b) (value_known y (Data w b) is)
   gives_known ending (cast x y) did = value_known y
@@ -74,7 +77,7 @@ module _ (m : Module) (h : List Made) (s : Sight) (f : Frame) (rest : List Frame
   allocated_known x y did low high li hi =
       data_known m _ (bounds_of low high) low (λ b e.
       let p = bounds_are low high b e in
-      (block (length h), record { step = d; at = get_last h d; allocated = record { frame = f; x = x; y = y; did = did; low_is = p.0 ∙ li; high_is = p.1 ∙ hi } }))
+      (block (length h), (d, get_last h d, (f, x, y, did, p.0 ∙ li, p.1 ∙ hi))))
 
   -- the frames that a made step leaves
   frames_after : Ending m h → {i : Instruction} {e : Event} {l : Left} → d.found ≡ s.state → Did m d f i → Form m s f rest i e l → Each (FairFrame m (h ++ d ∷ [])) l.state.stack

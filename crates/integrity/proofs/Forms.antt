@@ -19,10 +19,13 @@ use Rattle.machine.specs.declared.refusal.Stop.{Stop}
 use Rattle.machine.specs.declared.refusal.Stop.TheVariants.{Address, NotData, Outside, NotCode, StackFull, HeapFull, NotTaken}
 use Rattle.machine.specs.declared.refusal.Refusal.{Refusal}
 use Rattle.machine.specs.declared.refusal.Refusal.TheVariants.{Stopped}
-use Rattle.machine.specs.Values.{word, with_word, bounds_of, data_in, within, read, wrapped}
+use Rattle.machine.specs.Values.{word, with_word, bounds_of, data_in, read, wrapped}
+use Rattle.machine.specs.inside.Parts.{within}
 use Rattle.machine.specs.Frames.{entered, value}
 use Rattle.machine.specs.Events.{event, other}
-use Rattle.machine.specs.Machine.{Sight, Act, keeps, puts, drops, Left, makes, gives, goes, writes, given, behind, sensitive, size, start_of, bounds, stops, enter, enter_through, leave, branch, allocate, move, field_within, load_within, keep, store_within, make}
+use Rattle.machine.specs.Machine.{Sight, Act, keeps, puts, drops, Left, makes, gives, goes, writes, given, sensitive, size, start_of, stops, enter, enter_through, leave, allocate, move, field_within, load_within, keep, make}
+use Rattle.machine.specs.inside.Parts.{behind, branch, store_within}
+use Rattle.machine.proofs.Parts.{bounds}
 
 module _ (m : Module) (s : Sight) (f : Frame) (rest : List Frame) where
   -- why a place is the next: it is behind the instruction, or a jump or a branch names it

@@ -1,3 +1,4 @@
+mod Held
 pub mod AlikeFrames
 pub mod AlikeOutcomes
 pub mod AlikeRuns

@@ -14,12 +14,16 @@ use Rattle.machine.specs.Values.{word}
 use Rattle.machine.specs.Frames.{value}
 use Rattle.machine.specs.Machine.{State, Sight, Left, Step, size, make}
 use Rattle.machine.specs.Goes.{Made, made}
-use Rattle.integrity.specs.Histories.{Allocated, Name, global, block, Block, Object}
+use Rattle.integrity.specs.Histories.{Allocated, Name, global, block, Object}
 use Rattle.integrity.specs.Integrity.{Begun}
 use Rattle.integrity.proofs.Each.{get_cases}
 use Rattle.integrity.proofs.Forms.{Form, gave, allocated, went, wrote, entered_in, left}
 use Rattle.integrity.proofs.Runs.{Quiet, Turn, turned, turn_is, form_turn}
 use Rattle.integrity.proofs.Sizes.{globals_fit, global_some, start_before, start_within, allocate_some, starts_up}
+
+-- the block of step n
+abbrev Block : Module → List Made → ℕ → ℕ → ℕ → Type 0
+Block m h n low high = Object m h (block n) low high
 
 -- the heap begins behind the globals, and the blocks fill it in the order in which they were allocated
 pub record Laid (m : Module) (h : List Made) (s : Sight) : Type 0 where
@@ -37,12 +41,12 @@ record Grows (m : Module) (s : Sight) (d : Made) (s' : Sight) : Type 0 where
 module _ (m : Module) where
   block_more : (h : List Made) (d : Made) (n low high : ℕ) → Block m (h ++ d ∷ []) n low high → Block m h n low high ⊎ ((n ≡ length h) × Allocated m d low high)
   block_more h d n low high b = ⊎_elim
-      (λ a. inl (record { step = b.step; at = a; allocated = b.allocated }))
-      (λ a. inr (a.0, subst (λ (c : Made). Allocated m c low high) (sym a.1) b.allocated))
-      (get_cases h d n b.step b.at)
+      (λ a. inl (b.0, a, b.2))
+      (λ a. inr (a.0, subst (λ (c : Made). Allocated m c low high) (sym a.1) b.2))
+      (get_cases h d n b.0 b.1)
 
   block_before : (h : List Made) (n low high : ℕ) → Block m h n low high → n < length h
-  block_before h n low high b = slice_get_within h n b.step b.at
+  block_before h n low high b = slice_get_within h n b.0 b.1
 
   laid_more : (h : List Made) (s : Sight) (d : Made) (s' : Sight) → Laid m h s → Grows m s d s' → Laid m (h ++ d ∷ []) s'
   laid_more h s d s' l g =
@@ -103,18 +107,18 @@ module _ (m : Module) where
         up = omega (arith, heap, h);
         upto = omega (arith, heap, h, fits);
         new = λ low high a.
-            let same = turn_is t a.did in
-            let it : op.Allocate a.x a.y ≡ op.Allocate x y = same.1 ∙ q in
-            let b : a.x ≡ x = cc in
-            let c : a.y ≡ y = cc in
-            let as_many : word (value a.frame a.y) * size m a.frame a.x ≡ n = rw (same.0, b, c) refl in
-            (a.low_is, omega (arith, a.low_is, a.high_is, as_many, some), omega (arith, a.high_is, as_many, heap, h));
+            let same = turn_is t a.3 in
+            let it : op.Allocate a.1 a.2 ≡ op.Allocate x y = same.1 ∙ q in
+            let b : a.1 ≡ x = cc in
+            let c : a.2 ≡ y = cc in
+            let as_many : word (value a.0 a.2) * size m a.0 a.1 ≡ n = rw (same.0, b, c) refl in
+            (a.4, omega (arith, a.4, a.5, as_many, some), omega (arith, a.5, as_many, heap, h));
       })
       (λ u. let h : s'.state.heap ≡ s.state.heap = heap ∙ stays s f t.others t.instr e _ u form in
       record {
         up = omega (arith, h);
         upto = omega (arith, h, upto);
-        new = λ low high a. let same = turn_is t a.did in absurd (u a.x a.y (sym same.1));
+        new = λ low high a. let same = turn_is t a.3 in absurd (u a.1 a.2 (sym same.1));
       })
       (allocates t.instr)
 
@@ -148,11 +152,11 @@ pub apart_of : {m : Module} {h : List Made} {s : Sight} → Laid m h s → (o o'
 apart_of {m} l (global k) (global k') low high low' high' ne a b =
     let up = starts_up (said m).types (said m).globals in
     ⊎_elim
-    (λ lt. inl (omega (arith, a.high_is, b.low_is, up (k + 1) k' (omega (arith, lt)))))
-    (λ le. let u : k ≢ k' = λ e. ne (ap global e) in inr (omega (arith, b.high_is, a.low_is, up (k' + 1) k (omega (arith, le, u)))))
+    (λ lt. inl (omega (arith, a.2, b.1, up (k + 1) k' (omega (arith, lt)))))
+    (λ le. let u : k ≢ k' = λ e. ne (ap global e) in inr (omega (arith, b.2, a.1, up (k' + 1) k (omega (arith, le, u)))))
     (cases_lt k k')
-apart_of {m} l (global k) (block n) low high low' high' ne a b = inl (omega (arith, a.high_is, start_before m (k + 1), (l.blocks n low' high' b).0))
-apart_of {m} l (block n) (global k) low high low' high' ne a b = inr (omega (arith, b.high_is, start_before m (k + 1), (l.blocks n low high a).0))
+apart_of {m} l (global k) (block n) low high low' high' ne a b = inl (omega (arith, a.2, start_before m (k + 1), (l.blocks n low' high' b).0))
+apart_of {m} l (block n) (global k) low high low' high' ne a b = inr (omega (arith, b.2, start_before m (k + 1), (l.blocks n low high a).0))
 apart_of l (block n) (block n') low high low' high' ne a b =
     ⊎_elim
     (λ lt. inl (l.apart n n' low high low' high' lt a b))
@@ -161,5 +165,5 @@ apart_of l (block n) (block n') low high low' high' ne a b =
 
 -- each has a word at least, and lies within the memory
 pub inside_of : {m : Module} {h : List Made} {s : Sight} → Laid m h s → (o : Name) (low high : ℕ) → Object m h o low high → (low < high) × (high ≤ (said m).memory)
-inside_of {m} l (global k) low high a = (omega (arith, a.low_is, a.high_is, global_some m k a.there), omega (arith, a.high_is, start_within m (k + 1)))
+inside_of {m} l (global k) low high a = (omega (arith, a.1, a.2, global_some m k a.0), omega (arith, a.2, start_within m (k + 1)))
 inside_of l (block n) low high a = let o = l.blocks n low high a in (o.1, omega (arith, o.2, l.upto))

@@ -9,6 +9,8 @@ use Rattle.content.specs.declared.function.Function.{Function}
 use Rattle.content.specs.declared.instruction.Instruction.{Instruction}
 use Rattle.content.specs.declared.instruction.Instruction.TheVariants as op
 use Rattle.rules.specs.Keeping.{ends}
+use Rattle.rules.specs.declared.rule.Rule.TheVariants.{Names}
+use Rattle.rules.proofs.Keeps.{each}
 use Rattle.module.specs.Modules.{said, in_function}
 use Rattle.module.specs.declared.module.Module.{Module}
 use Rattle.machine.specs.declared.frame.Frame.{Frame}
@@ -18,7 +20,8 @@ use Rattle.machine.specs.declared.event.EventKind.{EventKind}
 use Rattle.machine.specs.declared.event.EventKind.TheVariants.{CalledThrough}
 use Rattle.machine.specs.declared.value.Value.{Value}
 use Rattle.machine.specs.Events.{event}
-use Rattle.machine.specs.Machine.{Sight, Left, Act, Step, instruction, given, behind}
+use Rattle.machine.specs.Machine.{Sight, Left, Act, Step, instruction, given}
+use Rattle.machine.specs.inside.Parts.{behind}
 use Rattle.machine.specs.Goes.{Made}
 use Rattle.integrity.specs.Histories.{TookBy}
 use Rattle.integrity.specs.Integrity.{Begun}
@@ -30,7 +33,7 @@ use Rattle.integrity.proofs.Rules.{Ruled, ruled}
 
 module _ (m : Module) where
   code_fits : (k : ℕ) (g : Function) → slice_get (said m).functions k ≡ Some g → g.first + g.count ≤ length (said m).code
-  code_fits k g is = ∥∥₁_rec le_prop (λ y. leb-true _ _ (and_parts _ _ (y.named.functions k g is)).0) m.follows
+  code_fits k g is = ∥∥₁_rec le_prop (λ y. leb-true _ _ (and_parts _ _ ((each Names (said m) y.named).functions k g is)).0) m.follows
 
   abbrev Has : Frame → Type 0
   Has f = (i : Instruction) × (instruction m f ≡ Some i)
@@ -59,8 +62,8 @@ module _ (m : Module) where
   -- a function whose address was taken is there
   pub named_of : (h : List Made) (g : ℕ) → TookBy m h g → g < length (said m).functions
   named_of h g t =
-      let r = ruled m t.took.frame (op.Function t.took.x g) t.took.did.instruction_is in
-      ltb-true _ _ (and_parts (nat_lt t.took.x r.owner.locals) _ r.names).1
+      let r = ruled m t.2 (op.Function t.3 g) t.5.instruction_is in
+      ltb-true _ _ (and_parts (nat_lt t.3 r.owner.locals) _ r.names).1
 
 module _ (m : Module) (s : Sight) (f : Frame) (rest : List Frame) where
   -- what gives, writes or enters is not the last of its function

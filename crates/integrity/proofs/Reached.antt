@@ -1,7 +1,7 @@
 -- A made step enters through a pointer only a function whose address was taken, and reaches nothing outside the bounds of a marked value.
-use Rattle.std.proofs.Common.{◌≡◌, ℕ, ⊎_elim, true, false, List, Some, Ok, Option, sym, ap, ◌∙◌, subst}
+use Rattle.std.proofs.Common.{◌≡◌, ℕ, ⊎_elim, true, false, List, Some, Ok, sym, ap, ◌∙◌, subst}
 use Rattle.std.proofs.lemmas.Bool.{both_ways}
-use Rattle.std.proofs.lemmas.Option.{some_pair_parts}
+use Rattle.content.specs.declared.instruction.Instruction.TheVariants as op
 use Rattle.content.specs.declared.instruction.Instruction.{Instruction}
 use Rattle.tables.specs.Tables.{words}
 use Rattle.module.specs.declared.module.Module.{Module}
@@ -14,15 +14,15 @@ use Rattle.machine.specs.declared.frame.Frame.{Frame}
 use Rattle.machine.specs.declared.event.Event.{Event}
 use Rattle.machine.specs.declared.event.EventKind.{EventKind}
 use Rattle.machine.specs.declared.event.EventKind.TheVariants.{Other, CalledThrough, Returned, Ended, Branched, Allocated as AllocatedIs}
-use Rattle.machine.specs.Values.{within}
+use Rattle.machine.specs.inside.Parts.{within}
 use Rattle.machine.specs.Events.{event}
 use Rattle.machine.specs.Frames.{value}
 use Rattle.machine.specs.Machine.{Sight, Act, Left, Step, sensitive, size, instruction}
 use Rattle.machine.specs.Goes.{Made, made}
 use Rattle.machine.proofs.Bounding.{within_parts}
-use Rattle.integrity.specs.Histories.{Did, TookBy, through}
+use Rattle.integrity.specs.Histories.{Did, TookBy, Through, field, load, store}
 use Rattle.integrity.specs.Integrity.{Inside}
-use Rattle.integrity.proofs.Forms.{Next, behind_branch, by_branch, by_jump, Gives, moved, field, field_plain, loaded, loaded_plain, Writes, put, dropped, written, Enters, called, called_through, Form, gave, allocated, went, wrote, entered_in, left}
+use Rattle.integrity.proofs.Forms.{Next, behind_branch, by_branch, by_jump, Gives, moved, field as given_field, field_plain, loaded, loaded_plain, Writes, put, dropped, written, Enters, called, called_through, Form, gave, allocated, went, wrote, entered_in, left}
 use Rattle.integrity.proofs.Runs.{Turn, turned, turn_is, form_turn}
 use Rattle.integrity.proofs.Typed.{through_load, through_store}
 use Rattle.integrity.proofs.Fair.{some_marked, FairFrame, Fair, value_there}
@@ -52,49 +52,63 @@ module _ (m : Module) (h : List Made) (s : Sight) (f : Frame) (rest : List Frame
   through_known (left i_is q is) g e_is = absurd (⊎_elim (λ z. unlike _ Returned 0 g (λ w. cc) z e_is) (λ z. unlike _ Ended 0 g (λ w. cc) z e_is) q)
 
   -- nothing is reached through a mark but within its bounds
-  abbrev pub Reaches : Option (ℕ × ℕ) → Type 0
-  Reaches o = (y words : ℕ) (v : Mark) → o ≡ Some (y, words) → value f y ≡ Marked v → Inside v words
+  abbrev pub Reaches : Instruction → Type 0
+  Reaches i = (y words : ℕ) (v : Mark) → Through m f i y words → value f y ≡ Marked v → Inside v words
 
-  inside_at : (y a n : ℕ) (b : Bounds) → value f y ≡ Marked (Data a b) → within b a n ≡ true → Reaches (Some (y, n))
-  inside_at y a n b is l y' words v q e =
-      let p = some_pair_parts y y' n words q in
-      let w = within_parts b a n l in
-      rw (← p.1) (record { word = a; bounds = b; is = some_marked v (Data a b) (sym (rw (← p.0) at e) ∙ is); from = w.0; upto = w.1 })
+  -- so it is through one local, of so many words
+  abbrev Held : ℕ → ℕ → Type 0
+  Held y words = (v : Mark) → value f y ≡ Marked v → Inside v words
+
+  by_field : (x y k : ℕ) → Held y (size m f y) → Reaches (op.Field x y k)
+  by_field x y k held _ _ v (field _ _ _) is = held v is
+
+  by_load : (x y : ℕ) → Held y 1 → Reaches (op.Load x y)
+  by_load x y held _ _ v (load _ _) is = held v is
+
+  by_store : (x y : ℕ) → Held y 1 → Reaches (op.Store x y)
+  by_store x y held _ _ v (store _ _) is = held v is
+
+  inside_at : (y a n : ℕ) (b : Bounds) → value f y ≡ Marked (Data a b) → within b a n ≡ true → Held y n
+  inside_at y a n b is l v e = let w = within_parts b a n l in subst (λ u. Inside u n) (some_marked (Data a b) v (sym is ∙ e)) (w.0, w.1)
 
   -- where what y points at isn't sensitive, y is plain, and nothing is reached through a mark
-  plain_at : (x y n : ℕ) → (sensitive m f y ≡ true → sensitive m f x ≡ true) → sensitive m f x ≡ false → Reaches (Some (y, n))
-  plain_at x y n k t y' words v q e =
-      let p = some_pair_parts y y' n words q in
-      absurd (both_ways _ t (k (fair.typed y v (value_there f y v (rw (← p.0) at e)))))
+  plain_at : (x y n : ℕ) → (sensitive m f y ≡ true → sensitive m f x ≡ true) → sensitive m f x ≡ false → Held y n
+  plain_at x y n k t v e = absurd (both_ways _ t (k (fair.typed y v (value_there f y v e))))
 
-  gives_inside : {i : Instruction} {e : Event} {x : ℕ} {u : Value} → Gives m s f rest i e x u → instruction m f ≡ Some i → Reaches (through m f i)
-  gives_inside (field x y k w b t is l) ins = inside_at y w (size m f y) b is l
-  gives_inside (field_plain x y k t) ins = plain_at y y (size m f y) (λ z. z) t
-  gives_inside (loaded x y a n b t is l) ins = inside_at y a 1 b is l
-  gives_inside (loaded_plain x y n t) ins = plain_at x y 1 (through_load m f x y ins) t
-  gives_inside p ins = λ y words v q e. absurd (cc)
+  gives_inside : {i : Instruction} {e : Event} {x : ℕ} {u : Value} → Gives m s f rest i e x u → instruction m f ≡ Some i → Reaches i
+  gives_inside (given_field x y k w b t is l) ins = by_field x y k (inside_at y w (size m f y) b is l)
+  gives_inside (field_plain x y k t) ins = by_field x y k (plain_at y y (size m f y) (λ z. z) t)
+  gives_inside (loaded x y a n b t is l) ins = by_load x y (inside_at y a 1 b is l)
+  gives_inside (loaded_plain x y n t) ins = by_load x y (plain_at x y 1 (through_load m f x y ins) t)
+  gives_inside p ins = λ y words v q e. elim q [ ]
 
-  writes_inside : {i : Instruction} {act : Act} → Writes m s f rest i act → instruction m f ≡ Some i → Reaches (through m f i)
-  writes_inside (put x y a v b t x_is y_is l) ins = inside_at y a 1 b y_is l
-  writes_inside (dropped x y a n b t x_is y_is l) ins = inside_at y a 1 b y_is l
-  writes_inside (written x y t) ins = plain_at x y 1 (through_store m f x y ins) t
+  writes_inside : {i : Instruction} {act : Act} → Writes m s f rest i act → instruction m f ≡ Some i → Reaches i
+  writes_inside (put x y a v b t x_is y_is l) ins = by_store x y (inside_at y a 1 b y_is l)
+  writes_inside (dropped x y a n b t x_is y_is l) ins = by_store x y (inside_at y a 1 b y_is l)
+  writes_inside (written x y t) ins = by_store x y (plain_at x y 1 (through_store m f x y ins) t)
 
-  next_none : {i : Instruction} {p : ℕ} → Next m s f rest i p → (r : ℕ × ℕ) → through m f i ≡ Some r → ⊥
-  next_none (behind_branch x to) r q = cc
-  next_none (by_branch x to) r q = cc
-  next_none (by_jump to) r q = cc
+  next_none : {i : Instruction} {p : ℕ} → Next m s f rest i p → (y words : ℕ) → Through m f i y words → ⊥
+  next_none (behind_branch x to) y words q = elim q [ ]
+  next_none (by_branch x to) y words q = elim q [ ]
+  next_none (by_jump to) y words q = elim q [ ]
 
-  enters_none : {i : Instruction} {k : EventKind} {g : ℕ} → Enters m s f rest i k g → (r : ℕ × ℕ) → through m f i ≡ Some r → ⊥
-  enters_none (called g) r q = cc
-  enters_none (called_through x g is) r q = cc
+  enters_none : {i : Instruction} {k : EventKind} {g : ℕ} → Enters m s f rest i k g → (y words : ℕ) → Through m f i y words → ⊥
+  enters_none (called g) y words q = elim q [ ]
+  enters_none (called_through x g is) y words q = elim q [ ]
 
-  form_inside : {i : Instruction} {e : Event} {l : Left} → Form m s f rest i e l → instruction m f ≡ Some i → Reaches (through m f i)
+  allocate_none : (x y z words : ℕ) → Through m f (op.Allocate x y) z words → ⊥
+  allocate_none x y z words q = elim q [ ]
+
+  return_none : (z words : ℕ) → Through m f op.Return z words → ⊥
+  return_none z words q = elim q [ ]
+
+  form_inside : {i : Instruction} {e : Event} {l : Left} → Form m s f rest i e l → instruction m f ≡ Some i → Reaches i
   form_inside (gave x u p is) ins = gives_inside p ins
-  form_inside (allocated x y i_is nonzero fits q is) ins = λ y' words v t e. let z = rw i_is at t in absurd (cc)
-  form_inside (went p n q is) ins = λ y words v t e. absurd (next_none n (y, words) t)
+  form_inside (allocated x y i_is nonzero fits q is) ins = λ z words v t e. absurd (allocate_none x y z words (subst (λ i. Through m f i z words) i_is t))
+  form_inside (went p n q is) ins = λ y words v t e. absurd (next_none n y words t)
   form_inside (wrote act memory p q is) ins = writes_inside p ins
-  form_inside (entered_in k g p room q is) ins = λ y words v t e. absurd (enters_none p (y, words) t)
-  form_inside (left i_is q is) ins = λ y words v t e. let z = rw i_is at t in absurd (cc)
+  form_inside (entered_in k g p room q is) ins = λ y words v t e. absurd (enters_none p y words t)
+  form_inside (left i_is q is) ins = λ y words v t e. absurd (return_none y words (subst (λ i. Through m f i y words) i_is t))
 
 newest_fair : (m : Module) (h : List Made) (s : Sight) (e : Event) (s' : Sight) → Fair m h s → (t : Turn m s e s') → FairFrame m h t.frame
 newest_fair m h s e s' fair t = before_frame m h s t.frame t.others (made s e s') fair t.stack_is
@@ -104,7 +118,7 @@ entered_step m h s s' e fair p g q =
     let t = turned m s e s' p in
     through_known m h s t.frame t.others (newest_fair m h s e s' fair t) (form_turn t) g q
 
-pub reached_step : (m : Module) (h : List Made) (s s' : Sight) (e : Event) → Fair m h s → Step m s (Ok e) s' → (f : Frame) (i : Instruction) (y words : ℕ) (v : Mark) → Did m (made s e s') f i → through m f i ≡ Some (y, words) → value f y ≡ Marked v → Inside v words
+pub reached_step : (m : Module) (h : List Made) (s s' : Sight) (e : Event) → Fair m h s → Step m s (Ok e) s' → (f : Frame) (i : Instruction) (y words : ℕ) (v : Mark) → Did m (made s e s') f i → Through m f i y words → value f y ≡ Marked v → Inside v words
 reached_step m h s s' e fair p f i y words v did q is =
     let t = turned m s e s' p in
     let same = turn_is t did in

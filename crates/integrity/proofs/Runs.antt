@@ -16,13 +16,14 @@ use Rattle.machine.specs.declared.refusal.Refusal.{Refusal}
 use Rattle.machine.specs.declared.refusal.Refusal.TheVariants as refusal
 use Rattle.machine.specs.declared.gone.Came.{Came}
 use Rattle.machine.specs.declared.gone.Came.TheVariants as came
-use Rattle.machine.specs.declared.gone.Gone.{Gone}
-use Rattle.machine.specs.Machine.{Sight, Left, Step, Does, refuses, stops, make, take_turn, turn, instruction}
+use Rattle.machine.specs.Machine.{Sight, Left, Step, Does, refuses, stops, make, turn, instruction}
+use Rattle.machine.specs.inside.Parts.{take_turn}
 use Rattle.machine.specs.Goes.{Made, made, Makes, Ends, Go}
 use Rattle.machine.specs.Goes as goes
-use Rattle.integrity.specs.Calls.{Calls, made_by, went_by}
+use Rattle.integrity.specs.Calls.{Calls}
 use Rattle.integrity.specs.Calls as calls
-use Rattle.integrity.specs.Histories.{newest, Did}
+use Rattle.std.specs.List.{slice_get}
+use Rattle.integrity.specs.Histories.{Did}
 use Rattle.integrity.proofs.Forms.{Outcome, stopped, done, outcome, Form, formed}
 
 -- what the panel, a refused step and a stop leave of a run
@@ -94,12 +95,12 @@ turned m s e s' p = turned_of m s e s' s.state.stack refl p
 
 -- what a made step did is its turn's
 pub did_turn : {m : Module} {s : Sight} {e : Event} {s' : Sight} (t : Turn m s e s') → Did m (made s e s') t.frame t.instr
-did_turn t = record { frame = ap newest t.stack_is; instruction_is = t.instruction_is }
+did_turn t = record { frame = ap (λ (l : List Frame). slice_get l 0) t.stack_is; instruction_is = t.instruction_is }
 
 -- and nothing else
 pub turn_is : {m : Module} {s : Sight} {e : Event} {s' : Sight} {f : Frame} {i : Instruction} (t : Turn m s e s') → Did m (made s e s') f i → (f ≡ t.frame) × (i ≡ t.instr)
 turn_is {m} {f = f} {i = i} t did =
-    let same : f ≡ t.frame = same_Some f t.frame (sym did.frame ∙ ap newest t.stack_is) in
+    let same : f ≡ t.frame = same_Some f t.frame (sym did.frame ∙ ap (λ (l : List Frame). slice_get l 0) t.stack_is) in
     (same, same_Some i t.instr (sym did.instruction_is ∙ ap (instruction m) same ∙ t.instruction_is))
 
 pub form_turn : {m : Module} {s : Sight} {e : Event} {s' : Sight} (t : Turn m s e s') → Form m s t.frame t.others t.instr e (make m s t.frame t.others t.instr)
@@ -128,17 +129,10 @@ module _ (m : Module) where
   ended came.Ended room n s s' e = same e.1
   ended (came.Stopped why) room n s s' e = not_made m s (refusal.Stopped why) s' e.1
 
-  stepped : {s s' s'' : Sight} {h : List Made} (r : Result Event Refusal) → Step m s r s' → Runs m s' h s'' → Runs m s (made_by s r s' ++ h) s''
-  stepped (Ok e) p q = step e p q
-  stepped {s = s} {s' = s'} (Err why) p q = quiet (not_made m s why s' p) q
-
-  gone : {s s' s'' : Sight} {h : List Made} (events events' : List Event) (r : Result Gone NotReady) (went : Go m s events r s' events') → Runs m s' h s'' → Runs m s (went_by m s events r s' events' went ++ h) s''
-  gone {s' = s'} events events' (Ok g) went q = joined (made_runs went.makes) (quiet (ended g.came (length events) g.made went.last s' went.ends) q)
-  gone events events' (Err why) went q = quiet (same went.1) q
-
 pub runs_of : (m : Module) {s : Sight} {h : List Made} {s' : Sight} → Calls m s h s' → Runs m s h s'
-runs_of m calls.none = rest
-runs_of m (calls.panel b c) = quiet (record { stack = ap (λ t. t.stack) b.state; heap = ap (λ t. t.heap) b.state; entries = b.entries }) (runs_of m c)
-runs_of m (calls.step r p c) = stepped m r p (runs_of m c)
-runs_of m (calls.go events events' r went c) = gone m events events' r went (runs_of m c)
+runs_of m (calls.panel memory c) = quiet (record { stack = refl; heap = refl; entries = refl }) (runs_of m c)
+runs_of m (calls.step e p c) = step e p (runs_of m c)
+runs_of m (calls.refused_step {s = s} {s' = s'} why p c) = quiet (not_made m s why s' p) (runs_of m c)
+runs_of m (calls.go {s' = s'} events events' g went c) = joined m (made_runs m went.makes) (quiet (ended m g.came (length events) g.made went.last s' went.ends) (runs_of m c))
+runs_of m (calls.refused_go events events' why p c) = quiet (same p.1) (runs_of m c)
 runs_of m (calls.under_way p) = made_runs m p

@@ -1,5 +1,6 @@
 -- What the type rule says of the locals of an instruction: a load and a store of what isn't sensitive go through what isn't sensitive.
-use Rattle.std.proofs.Common.{⊎_elim, subst, ◌≡◌, ℕ, true, List, Some, None, Option, refl, sym, ap, nat_lt}
+use Rattle.std.specs.Option.{option_map_or}
+use Rattle.std.proofs.Common.{⊎_elim, subst, ◌≡◌, ℕ, Bool, true, false, slice_index_or, List, Some, None, Option, refl, sym, ap, nat_lt}
 use mathlib.Core.Bool.{Bool-set}
 use Rattle.std.specs.List.{slice_get}
 use Rattle.std.proofs.lemmas.Bool.{false≢true, cases_lt, eqb-true}
@@ -10,8 +11,7 @@ use Rattle.content.specs.declared.function.Function.{Function}
 use Rattle.content.specs.declared.instruction.Instruction.TheVariants as op
 use Rattle.rules.specs.Types.{pointee, local_type, kind_at, same}
 use Rattle.rules.specs.Keeping.{target}
-use Rattle.sensitivity.specs.Sensitive.{here, link, ChainFrom, Links, Ends}
-use Rattle.tables.specs.Tables.{mark_of}
+use Rattle.sensitivity.specs.Sensitive.{here, link, ChainFrom, Links, EndsChain}
 use Rattle.module.specs.Modules.{said}
 use Rattle.module.specs.declared.module.Module.{Module}
 use Rattle.machine.specs.declared.frame.Frame.{Frame}
@@ -19,7 +19,7 @@ use Rattle.machine.specs.Machine.{instruction, sensitive}
 use Rattle.integrity.proofs.Rules.{cond_option, ruled, local_in, local_past, local_is}
 
 -- what a pointer points at is all that a link leads to, and no chain ends at it
-no_end : (o : Option Kind) (to : ℕ) → pointee o ≡ Some to → Ends o → ⊥
+no_end : (o : Option Kind) (to : ℕ) → pointee o ≡ Some to → EndsChain o → ⊥
 no_end None to p q = q
 no_end (Some kind.Number) to p q = q
 no_end (Some kind.Void) to p q = cc
@@ -44,6 +44,10 @@ same_is : (a b : Option ℕ) → same a b ≡ true → (n : ℕ) × (a ≡ Some 
 same_is None b e = absurd (cc)
 same_is (Some n) None e = absurd (cc)
 same_is (Some n) (Some k) e = (n, refl, ap Some (sym (eqb-true n k e)))
+
+-- whether a type is marked, if there is one
+abbrev mark_of : List Bool → Option ℕ → Bool
+mark_of marks t = option_map_or (λ t. slice_index_or marks t false) t false
 
 -- what a sensitive type points at is sensitive
 mark_on : (m : Module) (a b : Option ℕ) → same (pointee (kind_at (said m).types a)) b ≡ true → mark_of m.sensitive a ≡ true → mark_of m.sensitive b ≡ true

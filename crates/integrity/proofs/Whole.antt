@@ -1,5 +1,5 @@
 -- The integrity theorem, from what each made step keeps and tells.
-use Rattle.std.specs.Prelude.{◌≡◌, ℕ, true, List, [], ◌∷◌, ◌++◌, Some, None, Ok}
+use Rattle.std.specs.Prelude.{◌≡◌, ℕ, true, List, [], ◌∷◌, ◌++◌, None, Ok}
 use Rattle.content.specs.declared.instruction.Instruction.{Instruction}
 use Rattle.module.specs.Modules.{said}
 use Rattle.module.specs.declared.module.Module.{Module}
@@ -14,7 +14,7 @@ use Rattle.machine.specs.Frames.{value}
 use Rattle.machine.specs.Machine.{Sight, Step}
 use Rattle.machine.specs.Goes.{Made, made}
 use Rattle.integrity.specs.Calls.{Calls}
-use Rattle.integrity.specs.Histories.{Did, TookBy, through}
+use Rattle.integrity.specs.Histories.{Did, TookBy, Through}
 use Rattle.integrity.specs.Integrity.{Begun, Inside, Sound, Integrity}
 use Rattle.integrity.proofs.Along.{along_all, held_is}
 use Rattle.integrity.proofs.Fair.{Fair, fair_begin, fair_quiet}
@@ -37,7 +37,7 @@ module _ (m : Module) where
   -- what is told of a made step, with the history before it
   record Tells (h : List Made) (d : Made) : Type 0 where
     entered : (g : ℕ) → d.event ≡ event CalledThrough g → TookBy m h g
-    reached : (f : Frame) (i : Instruction) (y words : ℕ) (v : Mark) → Did m d f i → through m f i ≡ Some (y, words) → value f y ≡ Marked v → Inside v words
+    reached : (f : Frame) (i : Instruction) (y words : ℕ) (v : Mark) → Did m d f i → Through m f i y words → value f y ≡ Marked v → Inside v words
     enterable : enters d.event.kind ≡ true → Enterable (said m) d.event.word
     enterable_through : (g : ℕ) → d.event ≡ event CalledThrough g → EnterableThrough (said m) g
 
@@ -80,11 +80,9 @@ module _ (m : Module) where
         named = named_of m h;
         placed = k.placed;
         left = held_is m (λ _. None) b.clear (runs_of m c);
-        within = record {
-          entered = λ n d at. (whole.1 n d at).enterable;
-          through = λ n g d at. (whole.1 n d at).enterable_through g;
-          standing = k.bound.standing;
-        };
+        enterable = λ n d at. (whole.1 n d at).enterable;
+        enterable_through = λ n g d at. (whole.1 n d at).enterable_through g;
+        standing = k.bound.standing;
       }
 
   pub integral : (s : Sight) → Begun m s → Integrity m s

@@ -1,7 +1,9 @@
 -- Every function that is entered can be: what stays so along a history.
 use Rattle.std.proofs.Common.{◌≡◌, ℕ, ⊎_elim, true, false, List, [], ◌∷◌, ◌++◌, Some, Ok, refl, sym, ap, subst}
+use Rattle.std.specs.List.{slice_get}
 use Rattle.std.proofs.lemmas.Bool.{both_ways}
 use Rattle.content.specs.declared.instruction.Instruction.{Instruction}
+use Rattle.content.specs.declared.instruction.Instruction.TheVariants as op
 use Rattle.module.specs.Modules.{said}
 use Rattle.module.specs.declared.module.Module.{Module}
 use Rattle.enterable.specs.Enterable as can
@@ -13,9 +15,10 @@ use Rattle.machine.specs.declared.event.EventKind.{EventKind}
 use Rattle.machine.specs.declared.event.EventKind.TheVariants.{CalledThrough}
 use Rattle.machine.specs.Events.{event, enters}
 use Rattle.machine.specs.Frames.{entered}
-use Rattle.machine.specs.Machine.{Sight, Left, Step, instruction, given, behind}
+use Rattle.machine.specs.Machine.{Sight, Left, Step, instruction, given}
+use Rattle.machine.specs.inside.Parts.{behind}
 use Rattle.machine.specs.Goes.{Made, made}
-use Rattle.integrity.specs.Histories.{newest, Took, TookBy}
+use Rattle.integrity.specs.Histories.{Did, TookBy}
 use Rattle.integrity.specs.Integrity.{Begun}
 use Rattle.integrity.proofs.Each.{Each, each_none, each_cons, each_first, each_rest, get_cases}
 use Rattle.integrity.proofs.Forms.{Gives, moved, Enters, called, called_through, Form, gave, allocated, went, wrote, entered_in, left}
@@ -32,22 +35,21 @@ module _ (m : Module) where
 
   -- what can be entered through a pointer can be entered
   at_all : (g : ℕ) → EnterableThrough (said m) g → Enterable (said m) g
-  at_all g t = can.taken t.function t.place t.x g t.enterable t.takes
+  at_all g t = can.taken t.0 t.1 t.2 g t.3 t.4
 
-  newest_can : (fs : List Frame) → Each Can fs → (f : Frame) → newest fs ≡ Some f → Can f
+  newest_can : (fs : List Frame) → Each Can fs → (f : Frame) → slice_get fs 0 ≡ Some f → Can f
   newest_can [] all f e = absurd (cc)
   newest_can (g ∷ rest) all f e = let q : g ≡ f = cc in subst Can q (each_first Can g rest all)
 
-  took_can : (d : Made) → Each Can d.found.stack → (g : ℕ) → Took m d g → EnterableThrough (said m) g
-  took_can d all g t =
-      record { function = t.frame.function; place = t.frame.place; x = t.x; enterable = newest_can d.found.stack all t.frame t.did.frame; takes = t.did.instruction_is }
+  took_can : (d : Made) → Each Can d.found.stack → (f : Frame) (x g : ℕ) → Did m d f (op.Function x g) → EnterableThrough (said m) g
+  took_can d all f x g did = (f.function, f.place, x, newest_can d.found.stack all f did.frame, did.instruction_is)
 
   taken_more : (h : List Made) (d : Made) → ((g : ℕ) → TookBy m h g → EnterableThrough (said m) g) → Each Can d.found.stack → (g : ℕ) → TookBy m (h ++ d ∷ []) g → EnterableThrough (said m) g
   taken_more h d known all g t =
       ⊎_elim
-      (λ a. known g (record { n = t.n; step = t.step; at = a; took = t.took }))
-      (λ a. took_can d all g (subst (λ (c : Made). Took m c g) (sym a.1) t.took))
-      (get_cases h d t.n t.step t.at)
+      (λ a. known g (t.0, t.1, t.2, t.3, a, t.5))
+      (λ a. took_can d all t.2 t.3 g (subst (λ (c : Made). Did m c t.2 (op.Function t.3 g)) (sym a.1) t.5))
+      (get_cases h d t.0 t.1 t.4)
 
 module _ (m : Module) (s : Sight) (f : Frame) (rest : List Frame) where
   gives_quiet : {i : Instruction} {e : Event} {x : ℕ} {v : Value} → Gives m s f rest i e x v → enters e.kind ≡ false
@@ -81,7 +83,7 @@ pub bound_begin : (m : Module) (s : Sight) → Begun m s → Bound m [] s
 bound_begin m s b =
     record {
       standing = rw (b.state) (each_cons (Can m) (entered 0) [] can.first (each_none (Can m)));
-      taken = λ g t. let at = t.at in absurd (cc);
+      taken = λ g t. let at = t.4 in absurd (cc);
     }
 
 pub bound_quiet : (m : Module) (h : List Made) (s s' : Sight) → Quiet s s' → Bound m h s → Bound m h s'

@@ -5,9 +5,8 @@ use Rattle.content.specs.declared.instruction.Instruction.{Instruction}
 use Rattle.module.specs.Modules.{said}
 use Rattle.module.specs.declared.module.Module.{Module}
 use Rattle.enterable.specs.Enterable.{Enterable, EnterableThrough}
-use Rattle.values.specs.declared.bounds.Bounds.{Bounds}
 use Rattle.values.specs.declared.marked.Marked.{Marked as Mark}
-use Rattle.values.specs.declared.marked.Marked.TheVariants.{Data}
+use Rattle.values.specs.declared.marked.Marked.TheVariants.{Code, Data}
 use Rattle.machine.specs.declared.value.Value.TheVariants.{Marked}
 use Rattle.machine.specs.declared.frame.Frame.{Frame}
 use Rattle.machine.specs.declared.event.EventKind.TheVariants.{CalledThrough}
@@ -16,29 +15,17 @@ use Rattle.machine.specs.Frames.{value}
 use Rattle.machine.specs.Machine.{Sight, beginning, instruction}
 use Rattle.machine.specs.Goes.{Made}
 use Rattle.integrity.specs.Calls.{Calls}
-use Rattle.integrity.specs.Histories.{Did, TookBy, Name, Object, Known, through, decisions, entered_by, Agree, held_after}
+use Rattle.integrity.specs.Histories.{Did, TookBy, Name, Object, Known, Through, decisions, entered_by, Agree, held_after}
 
 -- a run as it begins: in the module's first state, nothing held below the memory size
 pub record Begun (m : Module) (s : Sight) : Type 0 where
   pub state : s.state ≡ beginning m
   pub clear : (a : ℕ) → a < (said m).memory → s.entries a ≡ None
 
--- a value lies within bounds: it is data there, with so many words
-pub record Inside (v : Mark) (words : ℕ) : Type 0 where
-  pub word : ℕ
-  pub bounds : Bounds
-  pub is : v ≡ Data word bounds
-  pub from : bounds.low ≤ word
-  pub upto : word + words ≤ bounds.high
-
--- every function that was entered, and that of every standing frame, is one that can be
-pub record Within (m : Module) (h : List Made) (s : Sight) : Type 0 where
-  -- every function that was entered, by a call or through a pointer, can be entered
-  pub entered : (n : ℕ) (d : Made) → slice_get h n ≡ Some d → enters d.event.kind ≡ true → Enterable (said m) d.event.word
-  -- every one that was entered through a pointer can be entered through one
-  pub through : (n g : ℕ) (d : Made) → slice_get h n ≡ Some d → d.event ≡ event CalledThrough g → EnterableThrough (said m) g
-  -- the function of every standing frame can be entered
-  pub standing : (k : ℕ) (f : Frame) → slice_get s.state.stack k ≡ Some f → Enterable (said m) f.function
+-- a value is data, and so many words at it lie within its bounds
+abbrev pub Inside : Mark → ℕ → Type 0
+Inside (Code g) words = ⊥
+Inside (Data w b) words = (b.low ≤ w) × (w + words ≤ b.high)
 
 -- what holds of a history and of where it leads
 pub record Sound (m : Module) (h : List Made) (s : Sight) : Type 0 where
@@ -49,7 +36,7 @@ pub record Sound (m : Module) (h : List Made) (s : Sight) : Type 0 where
   -- and so it is with what the store holds below the memory size
   pub held : (a : ℕ) (v : Mark) → a < (said m).memory → s.entries a ≡ Some v → Known m h v
   -- no load, store or field step went through a marked value but within its bounds
-  pub reached : (n y words : ℕ) (d : Made) (f : Frame) (i : Instruction) (v : Mark) → slice_get h n ≡ Some d → Did m d f i → through m f i ≡ Some (y, words) → value f y ≡ Marked v → Inside v words
+  pub reached : (n y words : ℕ) (d : Made) (f : Frame) (i : Instruction) (v : Mark) → slice_get h n ≡ Some d → Did m d f i → Through m f i y words → value f y ≡ Marked v → Inside v words
   -- no two of all globals and blocks overlap
   pub apart : (o o' : Name) (low high low' high' : ℕ) → o ≢ o' → Object m h o low high → Object m h o' low' high' → (high ≤ low') ⊎ (high' ≤ low)
   -- each of them has a word at least, and lies within the memory
@@ -59,8 +46,11 @@ pub record Sound (m : Module) (h : List Made) (s : Sight) : Type 0 where
   pub placed : (k : ℕ) (f : Frame) → slice_get s.state.stack k ≡ Some f → (i : Instruction) × (instruction m f ≡ Some i)
   -- the store holds below the memory size what the last made step left there
   pub left : (a : ℕ) → a < (said m).memory → s.entries a ≡ held_after h a
-  -- every function that was entered can be
-  pub within : Within m h s
+  -- every function that was entered, by a call or through a pointer, can be entered; every one that was through a pointer can be through one
+  pub enterable : (n : ℕ) (d : Made) → slice_get h n ≡ Some d → enters d.event.kind ≡ true → Enterable (said m) d.event.word
+  pub enterable_through : (n g : ℕ) (d : Made) → slice_get h n ≡ Some d → d.event ≡ event CalledThrough g → EnterableThrough (said m) g
+  -- and so can the function of every standing frame
+  pub standing : (k : ℕ) (f : Frame) → slice_get s.state.stack k ≡ Some f → Enterable (said m) f.function
 
 -- what holds of two histories of one module, each on its own store, with its own memories
 pub record Alike (m : Module) (h h' : List Made) : Type 0 where

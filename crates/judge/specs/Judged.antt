@@ -1,3 +1,4 @@
+-- What the judge answers.
 use Rattle.std.specs.Prelude.{ℕ, ◌≡◌, ◌⊎◌, List}
 use Rattle.module.specs.declared.fault.ModuleFault.{ModuleFault}
 use Rattle.module.specs.Follows.{Accepted}

@@ -4,7 +4,8 @@ use Rattle.std.proofs.Common.{ap, sym, ◌∙◌}
 use Rattle.std.proofs.Props.{props}
 use Rattle.std.proofs.lemmas.Bool.{and_parts, ltb-true, leb-true, lt-ltb, le-leb}
 use Rattle.values.specs.declared.bounds.Bounds.{Bounds}
-use Rattle.machine.specs.Values.{bounds_if, bounds_of, within}
+use Rattle.machine.specs.Values.{bounds_if, bounds_of}
+use Rattle.machine.specs.inside.Parts.{within}
 
 -- bounds with the same low and high are the same
 same : (b : Bounds) (p : b.low < b.high) (q : b.high ≤ 65536) → ◌≡◌ {A = Bounds} (record { low = b.low; high = b.high; some = p; inside = q }) b

@@ -1,1 +1,3 @@
 pub mod Bounding
+pub mod Parts
+pub mod Keeping

@@ -1,5 +1,5 @@
 -- What a go answers and leaves.
-use Rattle.std.specs.Prelude.{◌≡◌, ◌≢◌, ℕ, ◌<◌, ◌≤◌, Bool, true, false, ◌||◌, List, [], ◌∷◌, ◌++◌, length, map, take, drop, Ok, Err, Result, ◌==◌}
+use Rattle.std.specs.Prelude.{◌≡◌, ◌≢◌, ℕ, ◌<◌, ◌≤◌, Bool, true, false, ◌||◌, List, [], ◌∷◌, ◌++◌, length, map, drop, Ok, Err, Result, ◌==◌}
 use Rattle.module.specs.Modules.{said}
 use Rattle.module.specs.declared.module.Module.{Module}
 use Rattle.machine.specs.declared.event.Event.{Event}
@@ -17,6 +17,7 @@ pub record Made : Type 0 where
   pub event : Event
   pub left : Entries
 
+-- what a step from s to s' made
 abbrev pub made : Sight → Event → Sight → Made
 made s e s' = record { found = s.state; event = e; left = s'.entries }
 
@@ -52,9 +53,7 @@ pub record Went (m : Module) (s : Sight) (events : List Event) (g : Gone) (s' : 
   pub makes : Makes m s steps last
   pub count : length steps ≡ g.made
   pub room : g.made ≤ length events
-  pub long : length events' ≡ length events
-  pub listed : take g.made events' ≡ map (λ d. d.event) steps
-  pub behind : drop g.made events' ≡ drop g.made events
+  pub listed : events' ≡ map (λ d. d.event) steps ++ drop g.made events
   pub ends : Ends m g.came (length events) g.made last s'
 
 -- a go's answer and what it leaves; refused, it changes nothing

@@ -1,12 +1,12 @@
 -- What a step answers and leaves.
-use Rattle.std.specs.Prelude.{◌≡◌, ℕ, ◌+◌, ◌-◌, ◌*◌, ◌^◌, Bool, true, false, cond, ◌||◌, List, [], ◌∷◌, length, take, Some, None, Ok, Err, Option, Result, ◌==◌, nat_lt, slice_index_or, slice_set, unwrap_or}
+use Rattle.std.specs.Prelude.{◌≡◌, ℕ, ◌+◌, ◌-◌, ◌*◌, ◌^◌, Bool, true, false, cond, ◌&&◌, ◌||◌, List, [], ◌∷◌, length, take, Some, None, Ok, Err, Option, Result, ◌==◌, nat_le, nat_lt, slice_index_or, slice_set, unwrap_or}
 use Rattle.content.specs.declared.kind.Kind.{Kind}
 use Rattle.content.specs.declared.global.Global.{Global}
 use Rattle.content.specs.declared.instruction.Instruction.{Instruction}
 use Rattle.content.specs.declared.instruction.Instruction.TheVariants as op
+use Rattle.std.specs.Option.{option_map_or}
 use Rattle.stores.specs.Meaning.{Dropped, Put}
 use Rattle.tables.specs.Tables.{words}
-use Rattle.tables.specs.declared.layout.Local.{Local}
 use Rattle.module.specs.Modules.{said, frames, instruction_at, local_at}
 use Rattle.module.specs.declared.module.Module.{Module}
 use Rattle.values.specs.declared.bounds.Bounds.{Bounds}
@@ -20,7 +20,7 @@ use Rattle.machine.specs.declared.refusal.Stop.{Stop}
 use Rattle.machine.specs.declared.refusal.Stop.TheVariants.{Address, NotData, Outside, NotCode, StackFull, HeapFull, NotTaken}
 use Rattle.machine.specs.declared.refusal.Refusal.{Refusal}
 use Rattle.machine.specs.declared.refusal.Refusal.TheVariants.{NotReady as Unready, Stopped}
-use Rattle.machine.specs.Values.{Mark, Code, Data, Value, Plain, Marked, word, with_word, bounds_of, data_in, within, read, wrapped}
+use Rattle.machine.specs.Values.{Mark, Code, Data, Value, Plain, Marked, word, with_word, bounds_of, data_in, read, wrapped}
 use Rattle.machine.specs.Frames.{entered, value}
 use Rattle.machine.specs.Events.{event, other}
 
@@ -57,6 +57,7 @@ pub data Act : Type 0 where
   puts : ℕ → Mark → Act
   drops : ℕ → Act
 
+-- and what that leaves of it
 abbrev pub Acts : Act → Entries → Taken → Entries → Taken → Type 0
 Acts keeps e t e' t' = (e' ≡ e) × (t' ≡ t)
 Acts (puts a v) e t e' t' = Put e e' t t' a v
@@ -78,31 +79,21 @@ module _ (m : Module) where
   abbrev pub instruction : Frame → Option Instruction
   instruction f = instruction_at (said m) f.function f.place
 
-  -- what has to be known of a frame's local: whether its type is sensitive, and the size of what it points at
-  abbrev pub local : Frame → ℕ → Local
-  local f x = local_at (said m) m.sensitive f.function x
-
+  -- whether the type of a frame's local is sensitive
   abbrev pub sensitive : Frame → ℕ → Bool
-  sensitive f x = (local f x).sensitive
+  sensitive f x = (local_at (said m) m.sensitive f.function x).sensitive
 
+  -- the size of what it points at
   abbrev pub size : Frame → ℕ → ℕ
-  size f x = unwrap_or (local f x).size 0
+  size f x = unwrap_or (local_at (said m) m.sensitive f.function x).size 0
 
 -- a frame whose next instruction is at this place
 abbrev pub at_place : Frame → ℕ → Frame
 at_place f p = record { function = f.function; place = p; locals = f.locals }
 
--- a frame behind its instruction
-abbrev pub behind : Frame → Frame
-behind f = at_place f (f.place + 1)
-
--- what local x may hold: plain where its type isn't sensitive
-abbrev pub kept : Module → Frame → ℕ → Value → Value
-kept m f x v = cond (sensitive m f x) v (Plain (word v))
-
--- a frame behind its instruction, local x holding v
+-- a frame behind its instruction, local x holding v, or the plain word where its type isn't sensitive
 abbrev pub given : Module → Frame → ℕ → Value → Frame
-given m f x v = record { function = f.function; place = f.place + 1; locals = slice_set f.locals x (kept m f x v) }
+given m f x v = record { function = f.function; place = f.place + 1; locals = slice_set f.locals x (cond (sensitive m f x) v (Plain (word v))) }
 
 -- refused: nothing changes
 abbrev pub refuses : Sight → NotReady → Left
@@ -128,12 +119,15 @@ module _ (m : Module) (s : Sight) (f : Frame) (rest : List Frame) where
 
   -- the store and the memory change
   abbrev pub writes : Act → List ℕ → Left
-  writes act memory = makes other (behind f ∷ rest) s.state.heap act memory
+  writes act memory = makes other (at_place f (f.place + 1) ∷ rest) s.state.heap act memory
 
   -- a function is entered, if a frame more may stand
   abbrev pub enter : EventKind → ℕ → Left
-  enter k g = cond (nat_lt (length rest + 1) (frames (said m).depth)) (makes (event k g) (entered g ∷ behind f ∷ rest) s.state.heap keeps s.memory) (stops s StackFull)
+  enter k g =
+      cond (nat_lt (length rest + 1) (frames (said m).depth))
+      (makes (event k g) (entered g ∷ at_place f (f.place + 1) ∷ rest) s.state.heap keeps s.memory) (stops s StackFull)
 
+  -- through a value, which must be code
   abbrev pub enter_through : Value → Left
   enter_through (Marked (Code g)) = enter CalledThrough g
   enter_through _ = stops s NotCode
@@ -143,18 +137,11 @@ module _ (m : Module) (s : Sight) (f : Frame) (rest : List Frame) where
   leave [] = makes (event Ended 0) [] s.state.heap keeps s.memory
   leave (g ∷ gs) = makes (event Returned 0) (g ∷ gs) s.state.heap keeps s.memory
 
-  abbrev pub branch : ℕ → ℕ → Left
-  branch w to = cond (w == 0) (goes (event Branched 0) (f.place + 1)) (goes (event Branched 1) to)
-
   -- asked for n times so many words: the first that the heap has left
   abbrev pub allocate : ℕ → ℕ → ℕ → Left
   allocate x n words =
       cond (n == 0 || nat_lt (said m).memory (s.state.heap + words)) (stops s HeapFull)
       (makes (event Allocated n) (given m f x (data_in (bounds_of s.state.heap (s.state.heap + words)) s.state.heap) ∷ rest) (s.state.heap + words) keeps s.memory)
-
-  -- the bounds of all of global g
-  abbrev pub bounds : ℕ → Option Bounds
-  bounds g = let c = said m in bounds_of (start_of c.types c.globals g) (start_of c.types c.globals (g + 1))
 
   -- moved by n, each of so many words: data stays data, within its bounds
   abbrev pub move : ℕ → Value → ℕ → ℕ → Left
@@ -163,15 +150,12 @@ module _ (m : Module) (s : Sight) (f : Frame) (rest : List Frame) where
 
   -- a value must be data, and so many words at it lie within its bounds, for what is done with it
   abbrev pub at_data : Value → ℕ → (ℕ → Bounds → Left) → Left
-  at_data (Marked (Data w b)) words does = cond (within b w words) (does w b) (stops s Outside)
+  at_data (Marked (Data w b)) words does = cond (nat_le b.low w && nat_le (w + words) b.high) (does w b) (stops s Outside)
   at_data _ words does = stops s NotData
 
   -- field k of the record at data, which must lie wholly within the bounds
   abbrev pub field_within : ℕ → Value → ℕ → ℕ → Left
   field_within x v k words = at_data v words (λ w b. gives other x (Marked (Data (wrapped (w + k)) b)))
-
-  abbrev pub field : ℕ → ℕ → ℕ → Left
-  field x y k = cond (sensitive m f y) (field_within x (value f y) k (size m f y)) (gives other x (with_word (value f y) (wrapped (word (value f y) + k))))
 
   -- a load from the memory alone
   abbrev pub load_plain : ℕ → ℕ → Left
@@ -181,9 +165,7 @@ module _ (m : Module) (s : Sight) (f : Frame) (rest : List Frame) where
   abbrev pub load_within : ℕ → Value → Left
   load_within x v = at_data v 1 (λ a b. gives other x (read (s.entries a) (slice_index_or s.memory a 0)))
 
-  abbrev pub load : ℕ → ℕ → Left
-  load x y = cond (sensitive m f x) (load_within x (value f y)) (load_plain x (word (value f y)))
-
+  -- a store into the memory alone
   abbrev pub store_plain : ℕ → ℕ → Left
   store_plain n a = cond (nat_lt a (said m).memory) (writes keeps (slice_set s.memory a n)) (stops s Address)
 
@@ -192,12 +174,7 @@ module _ (m : Module) (s : Sight) (f : Frame) (rest : List Frame) where
   keep (Plain n) a = writes (drops a) (slice_set s.memory a n)
   keep (Marked v) a = cond (s.taken a) (writes (puts a v) s.memory) (stops s NotTaken)
 
-  abbrev pub store_within : Value → Value → Left
-  store_within v at = at_data at 1 (λ a b. keep v a)
-
-  abbrev pub store : ℕ → ℕ → Left
-  store x y = cond (sensitive m f x) (store_within (value f x) (value f y)) (store_plain (word (value f x)) (word (value f y)))
-
+  -- what each instruction does
   abbrev pub make : Instruction → Left
   make (op.Set x n) = gives other x (Plain n)
   make (op.Add x y z) = gives other x (Plain (wrapped (word (value f y) + word (value f z))))
@@ -205,30 +182,25 @@ module _ (m : Module) (s : Sight) (f : Frame) (rest : List Frame) where
   make (op.Less x y z) = gives other x (Plain (cond (nat_lt (word (value f y)) (word (value f z))) 1 0))
   make (op.Cast x y) = gives other x (value f y)
   make (op.Jump to) = goes other to
-  make (op.Branch x to) = branch (word (value f x)) to
+  make (op.Branch x to) = cond (word (value f x) == 0) (goes (event Branched 0) (f.place + 1)) (goes (event Branched 1) to)
   make (op.Function x g) = gives other x (Marked (Code g))
-  make (op.Global x g) = gives other x (data_in (bounds g) (start_of (said m).types (said m).globals g))
+  make (op.Global x g) = let c = said m in let low = start_of c.types c.globals g in gives other x (data_in (bounds_of low (start_of c.types c.globals (g + 1))) low)
   make (op.Allocate x y) = allocate x (word (value f y)) (word (value f y) * size m f x)
   make (op.Move x y z) = move x (value f y) (word (value f z)) (size m f x)
-  make (op.Field x y k) = field x y k
-  make (op.Load x y) = load x y
-  make (op.Store x y) = store x y
+  make (op.Field x y k) =
+      cond (sensitive m f y) (field_within x (value f y) k (size m f y)) (gives other x (with_word (value f y) (wrapped (word (value f y) + k))))
+  make (op.Load x y) = cond (sensitive m f x) (load_within x (value f y)) (load_plain x (word (value f y)))
+  make (op.Store x y) = cond (sensitive m f x) (at_data (value f y) 1 (λ a b. keep (value f x) a)) (store_plain (word (value f x)) (word (value f y)))
   make (op.Call g) = enter Called g
   make (op.CallThrough x) = enter_through (value f x)
   make op.Return = leave rest
 
-  -- a frame with no instruction for it calls what isn't code; no run comes there
-  abbrev pub take_turn : Option Instruction → Left
-  take_turn None = stops s NotCode
-  take_turn (Some i) = make i
-
--- a step: refused after the end or a stop, and on a memory that hasn't the module's size
+-- a step: refused after the end or a stop, and on a memory that hasn't the module's size; a frame with no instruction for it calls what isn't code, and no run comes there
 abbrev pub turn : Module → Sight → List Frame → Left
 turn m s [] = refuses s Over
-turn m s (f ∷ rest) = cond s.state.stopped (refuses s Over) (cond (length s.memory == (said m).memory) (take_turn m s f rest (instruction m f)) (refuses s Memory))
-
-abbrev pub step_of : Module → Sight → Left
-step_of m s = turn m s s.state.stack
+turn m s (f ∷ rest) =
+    cond s.state.stopped (refuses s Over)
+    (cond (length s.memory == (said m).memory) (option_map_or (make m s f rest) (instruction m f) (stops s NotCode)) (refuses s Memory))
 
 -- s' and the answer r are what l says of a step of s
 pub record Does (s : Sight) (l : Left) (r : Result Event Refusal) (s' : Sight) : Type 0 where
@@ -239,4 +211,4 @@ pub record Does (s : Sight) (l : Left) (r : Result Event Refusal) (s' : Sight) :
 
 -- a step's answer and what it leaves
 abbrev pub Step : Module → Sight → Result Event Refusal → Sight → Type 0
-Step m s r s' = Does s (step_of m s) r s'
+Step m s r s' = Does s (turn m s s.state.stack) r s'

@@ -10,6 +10,7 @@ status_of true stack = Stopped
 status_of false [] = Ended
 status_of false (f ∷ rest) = Running
 
+-- and how that is told
 abbrev pub status_text : Status → List ℕ
 status_text Running = codes "running"
 status_text Ended = codes "ended"

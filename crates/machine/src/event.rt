@@ -1,7 +1,7 @@
 // What a made step tells.
 ghost use Rattle.std.specs.Prelude.{◌≡◌, Some};
-ghost use Rattle.machine.specs.Events.{decides};
-ghost use Rattle.machine.specs.Numbers.{kind_number, event_text};
+ghost use Rattle.machine.specs.Events.{decides, kind_number};
+ghost use Rattle.machine.specs.Numbers.{event_text};
 
 use std::fmt;
 

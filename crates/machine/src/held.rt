@@ -7,65 +7,69 @@ use std::marker::Model;
 use values::bounds::Bounds;
 use values::marked::Marked;
 
-#[derive(Clone, Copy)]
-enum Mark {
-    Plain,
-    Code,
-    Data(Bounds),
-}
-
-// A step asks for words far more often than for marks, and then reads this one place.
+// Eight bytes, of which a step reads the word alone more often than not.
 #[derive(Clone, Copy)]
 pub struct Held {
     word: u32,
-    mark: Mark,
+    // Of data the bounds, `low` and the last word within; else `low` is 1 for plain and 2 for code, and `last` is 0.
+    low: u16,
+    last: u16,
 }
 
 impl Model for Held {
-    ghost use Rattle.machine.specs.declared.value.Value.{Value as Told};
+    ghost use Rattle.machine.specs.declared.value.Value.{Value as Meant};
 
-    ghost Value = { Told };
+    ghost Value = { Meant };
 
-    ghost use Rattle.machine.specs.Holding.{valued, unvalued, unvalued_valued};
+    ghost use Rattle.machine.specs.inside.Holding.{valued, unvalued, unvalued_valued, Tidy};
 
     ghost view = { valued };
 
+    ghost invariant = { λ a. Tidy a.low a.last };
+
     ghost inverse = { unvalued };
 
-    ghost inverse_ok = { λ a h. unvalued_valued a };
+    ghost inverse_ok = { unvalued_valued };
 }
 
 impl Held {
+    #[tactic(auto, using(crate::proofs::Keeping::told_data, crate::proofs::Keeping::told_plain, crate::proofs::Keeping::told_code))]
     pub fn of(value: Value) -> Held
         ensures { result ≡ value }
     {
         match value {
             Value::Plain(word) => Held {
                 word,
-                mark: Mark::Plain,
+                low: 1,
+                last: 0,
             },
             Value::Marked(Marked::Code(word)) => Held {
                 word,
-                mark: Mark::Code,
+                low: 2,
+                last: 0,
             },
             Value::Marked(Marked::Data(word, bounds)) => Held {
                 word,
-                mark: Mark::Data(bounds),
+                low: bounds.low() as u16,
+                last: (bounds.high() - 1) as u16,
             },
         }
     }
 
+    #[tactic(auto, using(crate::proofs::Keeping::seen_data, crate::proofs::Keeping::seen_plain, crate::proofs::Keeping::seen_code))]
     pub fn value(self) -> Value
         ensures { result ≡ self }
     {
-        match self.mark {
-            Mark::Plain => Value::Plain(self.word),
-            Mark::Code => Value::Marked(Marked::Code(self.word)),
-            Mark::Data(bounds) => Value::Marked(Marked::Data(self.word, bounds)),
+        if self.low <= self.last {
+            Value::data(self.word, self.low as u32, self.last as u32 + 1)
+        } else if self.low == 1 {
+            Value::Plain(self.word)
+        } else {
+            Value::Marked(Marked::Code(self.word))
         }
     }
 
-    #[tactic(auto, using(crate::specs::Holding::word_valued))]
+    #[tactic(auto, using(crate::proofs::Keeping::word_valued))]
     pub fn word(self) -> u32
         ensures { result ≡ word self }
     {

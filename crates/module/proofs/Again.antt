@@ -1,3 +1,4 @@
+-- A module's own image is read again as the same module.
 use Rattle.std.proofs.Common.{◌≡◌, ℕ, List, sym, subst}
 use mathlib.Core.HLevel.{⊥_prop}
 use Rattle.parts.specs.Content.{Content}

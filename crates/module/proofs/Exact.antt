@@ -1,3 +1,4 @@
+-- An image says one content at most.
 use Rattle.std.proofs.Common.{◌≡◌, ℕ, Bool, true, false, List, Some, None, Option, sym, refl, ap, ◌∙◌, subst, true≢false, arith}
 use Rattle.records.specs.Words.{word_at}
 use Rattle.records.specs.declared.record.RecordFault.{RecordFault}
@@ -19,7 +20,6 @@ use Rattle.rules.specs.declared.rule.Rule.{Rule}
 use Rattle.rules.specs.declared.rule.Rule.TheVariants.{Names, Types}
 use Rattle.rules.specs.declared.fault.RuleFault.TheVariants.{Meaningless, Unnamed, Mistyped}
 use Rattle.rules.specs.Judging.{Kept, FirstBroken}
-use Rattle.rules.proofs.Keeps.{kept_unbroken}
 use Rattle.tables.specs.Tables.{Over}
 use Rattle.module.specs.declared.fault.ModuleFault.{ModuleFault}
 use Rattle.module.specs.declared.fault.ModuleFault.TheVariants as fault
@@ -60,7 +60,7 @@ differ : {b : Bool} → b ≡ false → b ≡ true → ⊥
 differ {b} p q = true≢false (sym q ∙ p)
 
 unbroken : (r : Rule) (c : Content) (f : RecordFault) → Kept r c → FirstBroken r c f → ⊥
-unbroken r c f k b = unlike f.«record» _ b.here (kept_unbroken r c k f.list)
+unbroken r c f k b = unlike f.«record» _ b.0 (k f.list)
 
 module _ (s : List ℕ) (c : Content) (y : Follows s c) where
   same : (d : Content) → d.memory ≡ word_at s 4 → d.depth ≡ word_at s 8 → Listed s (counts_in s) d → d ≡ c
@@ -81,10 +81,10 @@ module _ (s : List ℕ) (c : Content) (y : Follows s c) where
   not_refused (fault.Rule (Meaningless f)) h = unlike f.«record» _ h.1.here (all_mean s (counts_in s) c y.holds.listed f.list)
   not_refused (fault.Rule (Unnamed f)) h =
       let b = h.1 in
-      unbroken Names b.content f (subst (Kept Names) (sym (same b.content b.memory_is b.depth_is b.listed)) y.named) b.breaks
+      unbroken Names b.0 f (subst (Kept Names) (sym (same b.0 b.1 b.2 b.3)) y.named) b.4
   not_refused (fault.Rule (Mistyped f)) h =
       let b = h.1 in
-      unbroken Types b.content f (subst (Kept Types) (sym (same b.content b.memory_is b.depth_is b.listed)) y.typed) b.breaks.1
+      unbroken Types b.0 f (subst (Kept Types) (sym (same b.0 b.1 b.2 b.3)) y.typed) b.4.1
   not_refused fault.Globals h =
       let o : Over c = subst Over (same_content s h.content c h.holds y.holds) h.over in
       omega (arith, y.fits, o)

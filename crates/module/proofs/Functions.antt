@@ -1,45 +1,55 @@
 -- The instructions of a function.
-use Rattle.std.proofs.Common.{◌≡◌, ℕ, ◌+◌, ◌≤◌, length, Bool, true, false, cond, nat_lt, Some, None, Option, refl, ap, arith}
+use Rattle.std.proofs.Common.{◌≡◌, ℕ, zero, suc, ◌+◌, ◌<◌, ◌≤◌, length, List, [], ◌∷◌, take, drop, cond, nat_lt, Some, None, refl, ap, sym, ◌∙◌, ⊎_elim, arith}
 use Rattle.std.specs.List.{slice_get}
 use Rattle.std.proofs.Props.{props}
-use Rattle.std.proofs.lemmas.Bool.{ltb-true, leb-true, and_parts}
+use Rattle.std.proofs.lemmas.Bool.{cond-true, cond-false, leb-true, and_parts, lt-ltb, le-ltb, cases_lt}
+use Rattle.std.proofs.lemmas.List.{length-take}
+use Rattle.std.proofs.lemmas.Option.{slice_get_past}
 use Rattle.content.specs.declared.function.Function.{Function}
 use Rattle.content.specs.declared.instruction.Instruction.{Instruction}
 use Rattle.parts.specs.Content.{Content}
+use Rattle.rules.specs.declared.rule.Rule.TheVariants.{Names}
+use Rattle.rules.proofs.Keeps.{each}
 use Rattle.module.specs.declared.module.Module.{Module}
-use Rattle.module.specs.Modules.{said, function_at, in_function, instruction_at}
+use Rattle.module.specs.Modules.{said, instruction_at}
 
-none_if : (b : Bool) (o : Option Instruction) → (b ≡ true → ⊥) → cond b o None ≡ None
-none_if true o n = absurd (n refl)
-none_if false o n = refl
+-- what stands at a place of a part of a list
+in_front : (n i : ℕ) (xs : List Instruction) → i < n → slice_get (take n xs) i ≡ slice_get xs i
+in_front zero i xs p = absurd (omega (arith, p))
+in_front (suc n) i [] p = refl
+in_front (suc n) zero (x ∷ xs) p = refl
+in_front (suc n) (suc i) (x ∷ xs) p = in_front n i xs (omega (arith, p))
 
-abbrev pub no_function : Function
-no_function = record { first = 0; count = 0; first_local = 0; locals = 0 }
+behind : (n i : ℕ) (xs : List Instruction) → slice_get (drop n xs) i ≡ slice_get xs (n + i)
+behind zero i xs = ap (slice_get xs) (omega arith)
+behind (suc n) i [] = sym (slice_get_past [] (suc n + i) (omega arith))
+behind (suc n) i (x ∷ xs) = let e : suc n + i ≡ suc (n + i) = omega arith in rw e (behind n i xs)
 
--- a function of no instructions has none at any place
-pub no_instruction : (c d : Content) (k i : ℕ) → d ≡ c → None ≡ slice_get d.functions k → in_function c (Some no_function) i ≡ instruction_at c k i
-no_instruction c d k i same e =
-    let f : slice_get c.functions k ≡ None = cc (ap (λ (x : Content). slice_get x.functions k) same, e) in
-    rw f (none_if (nat_lt i 0) _ (λ p. omega (arith, ltb-true i 0 p)))
+part : (first count i : ℕ) (xs : List Instruction) → slice_get (take count (drop first xs)) i ≡ cond (nat_lt i count) (slice_get xs (first + i)) None
+part first count i xs = ⊎_elim
+    (λ (lt : i < count). in_front count i (drop first xs) lt ∙ behind first i xs ∙ sym (cond-true _ _ _ (lt-ltb i count lt)))
+    (λ (le : count ≤ i). slice_get_past (take count (drop first xs)) i (omega (arith, le, length-take count (drop first xs))) ∙ sym (cond-false _ _ _ (le-ltb i count le)))
+    (cases_lt i count)
 
-pub these_instructions : (c d : Content) (k i : ℕ) (f : Function) → d ≡ c → Some f ≡ slice_get d.functions k → in_function c (Some f) i ≡ instruction_at c k i
-these_instructions c d k i f same e =
-    let g : slice_get c.functions k ≡ Some f = cc (ap (λ (x : Content). slice_get x.functions k) same, e) in
-    rw g refl
+module _ (c d : Content) (k : ℕ) (same : d ≡ c) where
+  -- a function that isn't there has none at any place
+  pub no_instruction : (i : ℕ) → None ≡ slice_get d.functions k → None ≡ instruction_at c k i
+  no_instruction i e =
+      let f : slice_get c.functions k ≡ None = cc (ap (λ (x : Content). slice_get x.functions k) same, e) in
+      rw f refl
 
-pub none_there : (c d : Content) (k : ℕ) → d ≡ c → None ≡ slice_get d.functions k → no_function ≡ function_at c k
-none_there c d k same e =
-    let f : slice_get c.functions k ≡ None = cc (ap (λ (x : Content). slice_get x.functions k) same, e) in
-    rw f refl
+  -- the others are a part of the code
+  pub these_instructions : (i : ℕ) (f : Function) (code : List Instruction) → Some f ≡ slice_get d.functions k → d.code ≡ code → slice_get (take f.count (drop f.first code)) i ≡ instruction_at c k i
+  these_instructions i f code e is =
+      let g : slice_get c.functions k ≡ Some f = cc (ap (λ (x : Content). slice_get x.functions k) same, e) in
+      let there : c.code ≡ code = sym (ap (λ (x : Content). x.code) same) ∙ is in
+      rw (g, there) (part f.first f.count i code)
 
-pub one_there : (c d : Content) (k : ℕ) (f : Function) → d ≡ c → Some f ≡ slice_get d.functions k → f ≡ function_at c k
-one_there c d k f same e =
-    let g : slice_get c.functions k ≡ Some f = cc (ap (λ (x : Content). slice_get x.functions k) same, e) in
-    rw g refl
-
--- a function's code is there, by the rules
-pub code_fits : (m : Module) (d : Content) (k : ℕ) (f : Function) → d ≡ said m → Some f ≡ slice_get d.functions k → f.first + f.count ≤ length (said m).code
-code_fits m d k f same e =
-    let is : slice_get (said m).functions k ≡ Some f = cc (ap (λ (x : Content). slice_get x.functions k) same, e) in
+-- and of it alone, by the rules
+pub code_fits : (m : Module) (d : Content) (k : ℕ) (f : Function) (code : List Instruction) → d ≡ said m → Some f ≡ slice_get d.functions k → d.code ≡ code → f.first + f.count ≤ length code
+code_fits m d k f code same e is =
+    let there : slice_get (said m).functions k ≡ Some f = cc (ap (λ (x : Content). slice_get x.functions k) same, e) in
     let le : IsProp (f.first + f.count ≤ length (said m).code) = Prim.hlevel props in
-    ∥∥₁_rec le (λ y. leb-true _ _ (and_parts _ _ (y.named.functions k f is)).0) m.follows
+    let fits : f.first + f.count ≤ length (said m).code = ∥∥₁_rec le (λ y. leb-true _ _ (and_parts _ _ ((each Names (said m) y.named).functions k f there)).0) m.follows in
+    let long : length (said m).code ≡ length code = sym (ap (λ (x : Content). length x.code) same) ∙ ap (λ (l : List Instruction). length l) is in
+    omega (arith, fits, long)

@@ -1,3 +1,4 @@
+-- When an image follows every rule, and when it is refused.
 use Rattle.std.specs.Prelude.{ℕ, ◌≤◌, Bool, false, List, Decides, slice_index_or}
 use Rattle.parts.specs.Content.{Content}
 use Rattle.parts.specs.Holding.{Holds}

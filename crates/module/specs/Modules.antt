@@ -1,4 +1,5 @@
-use Rattle.std.specs.Prelude.{ℕ, zero, suc, ◌+◌, Bool, cond, List, [], ◌∷◌, Some, None, Option, nat_lt, slice_index_or, unwrap_or}
+-- What a module says, and what is asked of it.
+use Rattle.std.specs.Prelude.{ℕ, zero, suc, ◌+◌, Bool, cond, List, [], ◌∷◌, Some, None, Option, nat_lt, slice_index_or}
 use Rattle.content.specs.declared.kind.Kind.TheVariants.{Number}
 use Rattle.content.specs.declared.function.Function.{Function}
 use Rattle.content.specs.declared.instruction.Instruction.{Instruction}
@@ -35,10 +36,6 @@ NoLink c t = (j : ℕ) → SensitiveLink c t j → ⊥
 abbrev pub frames : ℕ → ℕ
 frames zero = 16
 frames (suc d) = suc d
-
--- function k; one of no instructions where there is none
-abbrev pub function_at : Content → ℕ → Function
-function_at c k = unwrap_or (slice_get c.functions k) (record { first = 0; count = 0; first_local = 0; locals = 0 })
 
 -- the instruction at place i of a function
 abbrev pub in_function : Content → Option Function → ℕ → Option Instruction

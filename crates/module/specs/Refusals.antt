@@ -1,3 +1,4 @@
+-- The number of an image's first fault, the record that it names, and how it is told.
 use Rattle.std.specs.Prelude.{ℕ, List, Some, None}
 use Rattle.records.specs.Words.{word_at}
 use Rattle.header.specs.Header.{Headed, HeaderBad, counts_in}

@@ -1,6 +1,6 @@
 // Reading and writing a module.
 ghost use Rattle.std.specs.Prelude.{◌≡◌, true, is_ok, MatchResult};
-ghost use Rattle.parts.specs.Content.{Content, content};
+ghost use Rattle.parts.specs.Content.{Content, shown};
 ghost use Rattle.tables.specs.Tables.{AllPlaced};
 ghost use Rattle.module.specs.Follows.{Follows, Accepted};
 ghost use Rattle.module.specs.Refusals.{Refused};
@@ -10,38 +10,38 @@ ghost use Rattle.module.specs.Modules.{said, image as image_of, fresh};
 
 use crate::fault::ModuleFault;
 use crate::module::Module;
-use header::header::Header;
+use header::front::Front;
+use parts::image::Image;
 use parts::parts::Parts;
-use rules::reading::read_parts;
+use rules::reading::read_image;
 use sensitivity::sensitive_types;
 use tables::layout::layouts;
 use tables::places::{Places, places_of};
 use writing::{TooShort, write_image};
 
-// The lists of an image that follows every rule, and where its globals lie.
+// The lists of an image that follows every rule, where they stand in it, and where its globals lie.
 #[derive(Clone, Copy)]
-struct Checked {
-    parts: Parts,
+struct Checked<'a> {
+    image: Image<'a>,
     places: Places,
 }
 
 fn check_image(image: &[u8]) -> Result<Checked, ModuleFault>
-    ensures { MatchResult result (λ k. Follows image.now (content k.parts) × AllPlaced (content k.parts) k.places) (λ f. Refused image.now f) }
+    ensures { MatchResult result (λ k. Follows image.now (shown k.image) × AllPlaced (shown k.image) k.places) (λ f. Refused image.now f) }
 {
-    let header = Header::read(image)?;
-    let parts = read_parts(header, image)?;
-    let places = places_of(&parts).ok_or(ModuleFault::Globals)?;
-    Ok(Checked { parts, places })
+    let front = Front::read(image)?;
+    let image = read_image(&front)?;
+    let places = places_of(&image).ok_or(ModuleFault::Globals)?;
+    Ok(Checked { image, places })
 }
 
-fn read_module(image: &[u8]) -> Result<Module, ModuleFault>
-    ensures answer { MatchResult result (λ m. Follows image.now (said m) × (image.now ≡ image_of m)) (λ f. Refused image.now f) }
-    ensures exact { (c : Content) → Follows image.now c → MatchResult result (λ m. said m ≡ c) (λ _. ⊥) }
-    ensures again { (m : Module) → image.now ≡ image_of m → MatchResult result (λ n. ∥ said n ≡ said m ∥₁) (λ _. ⊥) }
+fn read_module(bytes: &[u8]) -> Result<Module, ModuleFault>
+    ensures { (c : Content) → Follows bytes.now c → MatchResult result (λ m. said m ≡ c) (λ _. ⊥) }
 {
-    let Checked { parts, places } = check_image(image)?;
+    let Checked { image, places } = check_image(bytes)?;
+    let parts = Parts::of(&image);
     let sensitive = sensitive_types(&parts);
-    let layouts = layouts(&parts, &sensitive);
+    let layouts = layouts(&image, &sensitive);
     Ok(Module {
         parts,
         sensitive,
@@ -67,7 +67,7 @@ const FRESH: &[u8; 104] = b"\x01\0\0\0\x01\0\0\0\x01\0\0\0\
 
 impl Module {
     // The module before any reading: one number type, and function 0 with a lone return.
-    #[tactic(auto, using(crate::proofs::Fresh::fresh_follows))]
+    #[tactic(auto, using(crate::proofs::Fresh::fresh_is, crate::proofs::Fresh::never_refused))]
     pub fn new() -> Module
         ensures { said result ≡ fresh }
     {
@@ -83,7 +83,12 @@ impl Module {
         ensures exact { (c : Content) → Follows image.now c → (is_ok result ≡ true) × (said self.new ≡ c) }
         ensures again { (m : Module) → image.now ≡ image_of m → (is_ok result ≡ true) × ∥ said self.new ≡ said m ∥₁ }
     {
-        *self = read_module(image)?;
+        let Checked { image, places } = check_image(image)?;
+        // In place, since a module that is handed on is copied.
+        self.parts.read(&image);
+        self.sensitive = sensitive_types(&self.parts);
+        self.layouts = layouts(&image, &self.sensitive);
+        self.places = places;
         Ok(())
     }
 

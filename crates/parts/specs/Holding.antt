@@ -1,6 +1,9 @@
-use Rattle.std.specs.Prelude.{◌≡◌, ℕ, ◌<◌, List, take, drop, Some, None, Ok, Err, Option, Result}
+-- When an image holds a content.
+use Rattle.std.specs.Prelude.{◌≡◌, ℕ, ◌<◌, List, drop, Some, None, Ok, Err, Option, Result}
+use Rattle.std.specs.Borrow.{Bor}
 use Rattle.std.specs.Result.{result_err}
 use Rattle.records.specs.Records.{records}
+use Rattle.records.specs.Rows.{rows}
 use Rattle.records.specs.Lists.{list_number}
 use Rattle.records.specs.declared.list.ListOf.{ListOf}
 use Rattle.records.specs.declared.list.ListOf.TheVariants.{Types, Fields, Globals, Locals, Functions, Code}
@@ -33,10 +36,10 @@ pub record FirstMeaningless (s : List ℕ) (n : Counts) (f : RecordFault) : Type
   pub here : meaningless s n f.list ≡ Some f.record
   pub earlier : (l : ListOf) → list_number l < list_number f.list → meaningless s n l ≡ None
 
--- one list, read into the front of the places
-abbrev pub ListRead : {R : Type 0} → (List ℕ → Option R) → ℕ → ℕ → ListOf → List ℕ → Result (List R) RecordFault → Type 0
-ListRead meant w count list s (Ok places) = records meant w count s ≡ Ok (take count places)
-ListRead meant w count list s (Err f) = (f.list ≡ list) × (records meant w count s ≡ Err f.record)
+-- one list, as it stands there, or its first record that means nothing
+abbrev pub RowsRead : {R : Type 0} → (List ℕ → Option R) → ℕ → ℕ → ListOf → List ℕ → Result (Bor (List (List (List ℕ)))) RecordFault → Type 0
+RowsRead meant w count list s (Ok found) = (result_err (records meant w count s) ≡ None) × (found.now ≡ rows w count s)
+RowsRead meant w count list s (Err f) = (f.list ≡ list) × (records meant w count s ≡ Err f.record)
 
 -- the image s is laid out right, each of its records means something, and together they say c
 pub record Holds (s : List ℕ) (c : Content) : Type 0 where

@@ -1,16 +1,16 @@
 // The lists of a module, held in arrays of fixed lengths.
-ghost use Rattle.std.specs.Prelude.{◌≡◌, length, MatchResult};
+ghost use Rattle.std.specs.Prelude.{◌≡◌, length};
 
+use crate::image::Image;
+use crate::items::{FUNCTION, GLOBAL, INSTRUCTION, KIND, TYPED};
 use crate::lists::Lists;
-use crate::reading::read_list;
+use crate::reading::fill;
 use content::function::Function;
 use content::global::Global;
 use content::instruction::Instruction;
 use content::kind::Kind;
 use content::typed::Typed;
 use header::header::Header;
-use records::list::ListOf;
-use records::record::RecordFault;
 
 // The header counts the records: the board has no heap, so that each list is an array as long as a list may be.
 #[derive(Clone, Copy)]
@@ -28,37 +28,38 @@ pub struct Parts {
 }
 
 impl Parts {
-    ghost use Rattle.parts.specs.Content.{content, lengths, viewed};
-    ghost use Rattle.parts.specs.Holding.{Listed, FirstMeaningless};
+    ghost use Rattle.parts.specs.Content.{content, lengths, shown, viewed};
 
-    // The lists where the header puts them, or the first record that means nothing.
-    pub fn read(header: Header, image: &[u8]) -> Result<Parts, RecordFault>
-        ensures { MatchResult result (λ p. (p.header ≡ header) × Listed image.now header.counts (content p)) (λ f. FirstMeaningless image.now header.counts f) }
+    // The lists of an image.
+    pub fn of(image: &Image) -> Parts
+        ensures header { result.header ≡ image.now.header }
+        ensures lists { content result ≡ shown image.now }
     {
-        let (n, at) = (header.counts(), header.starts());
-        let typed = Typed { kind: 0 };
-        let global = Global { kind: 0, count: 1 };
-        let function = Function {
-            first: 0,
-            count: 1,
-            first_local: 0,
-            locals: 0,
+        let mut parts = Parts {
+            header: image.header,
+            types: [KIND; 64],
+            fields: [TYPED; 256],
+            globals: [GLOBAL; 64],
+            locals: [TYPED; 256],
+            functions: [FUNCTION; 64],
+            code: [INSTRUCTION; 1024],
         };
-        Ok(Parts {
-            header,
-            types: read_list(Kind::Number, n.types, image, at.types, ListOf::Types)?,
-            fields: read_list(typed, n.fields, image, at.fields, ListOf::Fields)?,
-            globals: read_list(global, n.globals, image, at.globals, ListOf::Globals)?,
-            locals: read_list(typed, n.locals, image, at.locals, ListOf::Locals)?,
-            functions: read_list(
-                function,
-                n.functions,
-                image,
-                at.functions,
-                ListOf::Functions,
-            )?,
-            code: read_list(Instruction::Return, n.code, image, at.code, ListOf::Code)?,
-        })
+        parts.read(image);
+        parts
+    }
+
+    // Takes over the lists of an image. Each is filled where it stands, since an array that is handed on is copied.
+    pub fn read(&mut self, image: &Image)
+        ensures header { self.new.header ≡ image.now.header }
+        ensures lists { content self.new ≡ shown image.now }
+    {
+        self.header = image.header;
+        fill(&mut self.types, image.types, KIND);
+        fill(&mut self.fields, image.fields, TYPED);
+        fill(&mut self.globals, image.globals, GLOBAL);
+        fill(&mut self.locals, image.locals, TYPED);
+        fill(&mut self.functions, image.functions, FUNCTION);
+        fill(&mut self.code, image.code, INSTRUCTION);
     }
 
     pub fn header(&self) -> Header

@@ -1,4 +1,4 @@
-mod Fronts
+pub mod Chunks
 pub mod Runs
 pub mod Lists
 pub mod Spelling

@@ -1,3 +1,4 @@
+-- What is so of each of the six lists is so of any.
 use Rattle.records.specs.declared.list.ListOf.{ListOf}
 use Rattle.records.specs.declared.list.ListOf.TheVariants.{Types, Fields, Globals, Locals, Functions, Code}
 

@@ -1,3 +1,4 @@
+-- Words that are written as bytes are read again.
 use Rattle.std.proofs.Common.{◌≡◌, ℕ, zero, suc, ◌+◌, ◌*◌, ◌<◌, ◌≤◌, List, [], ◌∷◌, ◌++◌, length, get_or, take, drop, sym, refl, ap, ◌∙◌, arith, rules, drop-drop}
 use Rattle.std.proofs.lemmas.List.{drop_more, take-append-drop, append_assoc}
 use Rattle.std.proofs.lemmas.Nat.{le_bytes_4}

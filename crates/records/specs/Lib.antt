@@ -1,3 +1,4 @@
 pub mod Words
 pub mod Records
 pub mod Lists
+pub mod Rows

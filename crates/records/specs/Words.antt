@@ -1,3 +1,4 @@
+-- Words out of bytes, and bytes out of words.
 use Rattle.std.specs.Prelude.{ℕ, zero, suc, ◌+◌, ◌*◌, ◌/◌, ◌%◌, List, [], ◌∷◌, slice_index}
 use Rattle.std.specs.List.{flat_map}
 

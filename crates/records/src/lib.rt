@@ -2,6 +2,6 @@
 #![tactic(auto)]
 
 pub mod list;
-pub mod reading;
 pub mod record;
+pub mod rows;
 pub mod word;

@@ -1,6 +1,6 @@
 // Words out of bytes, lowest byte first.
-ghost use Rattle.std.specs.Prelude.{◌≡◌, ◌≤◌, drop};
-ghost use Rattle.records.specs.Words.{word_at, words_from};
+ghost use Rattle.std.specs.Prelude.{◌≡◌, drop};
+ghost use Rattle.records.specs.Words.{word_at};
 
 // The bytes from `n` on.
 pub fn after(bytes: &[u8], n: usize) -> &[u8]
@@ -15,16 +15,4 @@ pub fn word_at(bytes: &[u8], at: usize) -> u32
 {
     let rest = after(bytes, at);
     u32::from_le_bytes([0, 1, 2, 3].map(|k| rest.get(k).copied().unwrap_or(0)))
-}
-
-// The words at the front. Not by `from_fn`, which says of an array of a const parameter only that some call gave each item.
-pub(crate) fn front_words<const N: usize>(bytes: &[u8]) -> [u32; N]
-    requires { N ≤ 4 }
-    ensures { result ≡ words_from bytes.now 0 N }
-{
-    let mut words = [0; N];
-    for (k, word) in words.iter_mut().enumerate() {
-        *word = word_at(bytes, 4 * k);
-    }
-    words
 }

@@ -1,41 +1,14 @@
 -- What a store that is one of two means: what the one means that it is.
-use Rattle.std.specs.Prelude.{ℕ, Bool, Option}
-use Rattle.stores.specs.Meaning.{HeldTaken, Lasting}
 use Rattle.replay.specs.declared.either.Either.{Either}
 use Rattle.replay.specs.declared.either.Either.TheVariants.{First, Second}
 
 module _ {X Y : Type 0} where
-  abbrev pub either_entry : {V : Type 0} → (X → ℕ → Option V) → (Y → ℕ → Option V) → Either X Y → ℕ → Option V
-  either_entry f s (First x) = f x
-  either_entry f s (Second y) = s y
-
-  abbrev pub either_taken : (X → ℕ → Bool) → (Y → ℕ → Bool) → Either X Y → ℕ → Bool
-  either_taken f s (First x) = f x
-  either_taken f s (Second y) = s y
-
-  pub either_held : {V : Type 0} (e : X → ℕ → Option V) (e' : Y → ℕ → Option V) (t : X → ℕ → Bool) (t' : Y → ℕ → Bool) → ((x : X) → HeldTaken (e x) (t x)) → ((y : Y) → HeldTaken (e' y) (t' y)) → (s : Either X Y) → HeldTaken (either_entry e e' s) (either_taken t t' s)
-  either_held e e' t t' h h' (First x) = h x
-  either_held e e' t t' h h' (Second y) = h' y
+  abbrev pub either : {A : Type 0} → (X → A) → (Y → A) → Either X Y → A
+  either f s (First x) = f x
+  either f s (Second y) = s y
 
   -- It stays the one that it is, and that keeps what it keeps.
   abbrev pub EitherKept : (X → X → Type 0) → (Y → Y → Type 0) → Either X Y → Either X Y → Type 0
   EitherKept k k' (First x) (First z) = k x z
-  EitherKept k k' (First x) (Second z) = ⊥
-  EitherKept k k' (Second y) (First z) = ⊥
   EitherKept k k' (Second y) (Second z) = k' y z
-
-  module _ (k : X → X → Type 0) (k' : Y → Y → Type 0) (l : Lasting k) (l' : Lasting k') where
-    same : (s : Either X Y) → EitherKept k k' s s
-    same (First x) = l.same x
-    same (Second y) = l'.same y
-
-    chained : (s t u : Either X Y) → EitherKept k k' s t → EitherKept k k' t u → EitherKept k k' s u
-    chained (First x) (First y) (First z) p q = l.chained x y z p q
-    chained (First x) (First y) (Second z) p q = q
-    chained (First x) (Second y) u p q = absurd p
-    chained (Second x) (First y) u p q = absurd p
-    chained (Second x) (Second y) (First z) p q = q
-    chained (Second x) (Second y) (Second z) p q = l'.chained x y z p q
-
-    pub either_lasting : Lasting (EitherKept k k')
-    either_lasting = record { same = same; chained = chained }
+  EitherKept k k' _ _ = ⊥

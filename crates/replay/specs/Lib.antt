@@ -1,6 +1,4 @@
 pub mod Answers
-pub mod Builds
-pub mod Calls
 pub mod Either
-pub mod Replies
-pub mod Sessions
+pub mod Stores
+pub mod inside

@@ -1,4 +1,4 @@
-// What a line of a transcript tells.
+// What a transcript tells of a line about stores.
 ghost use Rattle.std.specs.Prelude.{Some};
 ghost use Rattle.replay.specs.Answers.{shown_answer};
 

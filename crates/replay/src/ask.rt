@@ -1,5 +1,5 @@
 // A call of a store, whatever its make.
-ghost use Rattle.replay.specs.Calls.{Asked};
+ghost use Rattle.replay.specs.Stores.{Asked};
 
 use crate::answer::Answer;
 use script::command::Call;

@@ -1,6 +1,6 @@
 // The store that a script asks for.
 ghost use Rattle.std.specs.Prelude.{IfOk};
-ghost use Rattle.replay.specs.Builds.{Built, FlatBuilt};
+ghost use Rattle.replay.specs.Stores.{Built, FlatBuilt};
 
 use crate::either::Either;
 use array_store::ArrayStore;
@@ -32,7 +32,7 @@ fn flat(heap: Global, make: Make, slots: u32) -> Result<Flat, AllocError>
 
 // Fails only for want of memory.
 pub(crate) fn build(heap: Global, shape: Shape) -> Result<Loose, AllocError>
-    ensures { IfOk result (Built shape) }
+    ensures { IfOk result (Built shape.view shape.make shape.slots) }
 {
     let store = flat(heap, shape.make, shape.slots)?;
     match shape.view {

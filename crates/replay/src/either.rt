@@ -1,5 +1,6 @@
 // A store that is one of two: what a script chooses when it is read.
-ghost use Rattle.replay.specs.Either.{EitherKept, either_entry, either_held, either_lasting, either_taken};
+ghost use Rattle.replay.specs.Either.{EitherKept, either};
+ghost use Rattle.replay.specs.inside.Lasting.{either_held, either_lasting};
 
 use stores::store::{NotTaken, Store};
 
@@ -13,9 +14,9 @@ pub enum Either<A, B> {
 impl<A: Store, B: Store<Entry = A::Entry>> Store for Either<A, B> {
     type Entry = A::Entry;
 
-    ghost entry = { λ s. either_entry A.Store.entry B.Store.entry s };
+    ghost entry = { λ s. either A.Store.entry B.Store.entry s };
 
-    ghost taken = { λ s. either_taken A.Store.taken B.Store.taken s };
+    ghost taken = { λ s. either A.Store.taken B.Store.taken s };
 
     ghost held = { λ s. either_held A.Store.entry B.Store.entry A.Store.taken B.Store.taken A.Store.held B.Store.held s };
 

@@ -1,9 +1,8 @@
-//! What a replay script does to a store, and what its transcript gets for it.
+//! What a line about stores does to the loose store, and what is answered.
 #![tactic(auto)]
 
 pub mod answer;
 mod ask;
 pub mod build;
 pub mod either;
-pub mod reply;
-pub mod session;
+pub mod obey;

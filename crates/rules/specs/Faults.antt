@@ -1,3 +1,4 @@
+-- What is wrong first with the records of an image.
 use Rattle.std.specs.Prelude.{◌≡◌, ℕ, List}
 use Rattle.header.specs.declared.counts.Counts.{Counts}
 use Rattle.parts.specs.Content.{Content}
@@ -7,12 +8,8 @@ use Rattle.rules.specs.declared.fault.RuleFault.TheVariants.{Meaningless, Unname
 use Rattle.rules.specs.Judging.{Breaks}
 
 -- the lists of the image s say c, of memory size m and depth d, and c breaks a rule
-pub record Broken (s : List ℕ) (m d : ℕ) (n : Counts) (e : RuleFault) : Type 0 where
-  pub content : Content
-  pub memory_is : content.memory ≡ m
-  pub depth_is : content.depth ≡ d
-  pub listed : Listed s n content
-  pub breaks : Breaks content e
+abbrev pub Broken : List ℕ → ℕ → ℕ → Counts → RuleFault → Type 0
+Broken s m d n e = (c : Content) × (c.memory ≡ m) × (c.depth ≡ d) × Listed s n c × Breaks c e
 
 -- e is the first thing that is wrong with the records of the image s
 abbrev pub RecordsBad : List ℕ → ℕ → ℕ → Counts → RuleFault → Type 0

@@ -1,15 +1,12 @@
-use Rattle.std.specs.Prelude.{◌≡◌, ℕ, ◌+◌, ◌<◌, Bool, true, not, List, [], ◌∷◌, Some, None, Ok, Err, Option, Result, position}
+-- Which record breaks a rule first.
+use Rattle.std.specs.Prelude.{◌≡◌, ℕ, ◌+◌, ◌<◌, Bool, true, not, List, [], ◌∷◌, Some, None, Option, position}
 use Rattle.std.specs.List.{slice_get, range_with_len}
 use Rattle.std.specs.Option.{option_map, option_map_or, option_or}
 use Rattle.records.specs.Lists.{list_number}
 use Rattle.records.specs.declared.list.ListOf.{ListOf}
 use Rattle.records.specs.declared.list.ListOf.TheVariants as list
 use Rattle.records.specs.declared.record.RecordFault.{RecordFault}
-use Rattle.content.specs.declared.kind.Kind.{Kind}
-use Rattle.content.specs.declared.typed.Typed.{Typed}
-use Rattle.content.specs.declared.global.Global.{Global}
 use Rattle.content.specs.declared.function.Function.{Function}
-use Rattle.content.specs.declared.instruction.Instruction.{Instruction}
 use Rattle.parts.specs.Content.{Content}
 use Rattle.rules.specs.declared.rule.Rule.{Rule}
 use Rattle.rules.specs.declared.rule.Rule.TheVariants.{Names, Types}
@@ -17,32 +14,19 @@ use Rattle.rules.specs.declared.fault.RuleFault.{RuleFault}
 use Rattle.rules.specs.declared.fault.RuleFault.TheVariants.{Meaningless, Unnamed, Mistyped}
 use Rattle.rules.specs.Keeping.{kind_keeps, typed_keeps, global_keeps, function_keeps, instruction_keeps}
 
--- every record keeps the rule, and so does each instruction in every function that has it
-pub record Kept (r : Rule) (c : Content) : Type 0 where
-  pub types : (k : ℕ) (t : Kind) → slice_get c.types k ≡ Some t → kind_keeps r c t ≡ true
-  pub fields : (k : ℕ) (t : Typed) → slice_get c.fields k ≡ Some t → typed_keeps r c t ≡ true
-  pub globals : (k : ℕ) (g : Global) → slice_get c.globals k ≡ Some g → global_keeps r c g ≡ true
-  pub locals : (k : ℕ) (t : Typed) → slice_get c.locals k ≡ Some t → typed_keeps r c t ≡ true
-  pub functions : (k : ℕ) (f : Function) → slice_get c.functions k ≡ Some f → function_keeps r c f ≡ true
-  pub code : (k : ℕ) (f : Function) (i : ℕ) (o : Instruction) → slice_get c.functions k ≡ Some f → i < f.count → slice_get c.code (f.first + i) ≡ Some o → instruction_keeps r c f i o ≡ true
-
 -- the first item at which the test fails, by its place
 abbrev pub first_in : {R : Type 0} → (R → Bool) → List R → Option ℕ
 first_in test rs = position (λ r. not (test r)) rs
 
--- what isn't there breaks nothing
-abbrev pub holds : {R : Type 0} → (R → Bool) → Option R → Bool
-holds test r = option_map_or test r true
-
--- the instruction at place i of function f keeps the rule
+-- the instruction at place i of function f keeps the rule; what isn't there breaks nothing
 abbrev pub place_keeps : Rule → Content → Function → ℕ → Bool
-place_keeps r c f i = holds (instruction_keeps r c f i) (slice_get c.code (f.first + i))
+place_keeps r c f i = option_map_or (instruction_keeps r c f i) (slice_get c.code (f.first + i)) true
 
 -- the first instruction of a function that breaks the rule there, by its place in the list of code
 abbrev pub broken_by : Rule → Content → Function → Option ℕ
 broken_by r c f = option_map (λ k. f.first + k) (first_in (place_keeps r c f) (range_with_len 0 f.count))
 
--- function by function
+-- the first instruction that breaks the rule, function by function
 abbrev pub broken_by_any : Rule → Content → List Function → Option ℕ
 broken_by_any r c [] = None
 broken_by_any r c (f ∷ fs) = option_or (broken_by r c f) (broken_by_any r c fs)
@@ -57,18 +41,12 @@ broken r c list.Functions = first_in (function_keeps r c) c.functions
 broken r c list.Code = broken_by_any r c c.functions
 
 -- f names the first record of the first list in which one breaks the rule
-pub record FirstBroken (r : Rule) (c : Content) (f : RecordFault) : Type 0 where
-  pub here : broken r c f.list ≡ Some f.record
-  pub earlier : (l : ListOf) → list_number l < list_number f.list → broken r c l ≡ None
+abbrev pub FirstBroken : Rule → Content → RecordFault → Type 0
+FirstBroken r c f = (broken r c f.list ≡ Some f.record) × ((l : ListOf) → list_number l < list_number f.list → broken r c l ≡ None)
 
 -- no record breaks the rule
-abbrev pub Unbroken : Rule → Content → Type 0
-Unbroken r c = (l : ListOf) → broken r c l ≡ None
-
--- what judging one list answers
-abbrev pub Judged : {Y : Type 0} → Option ℕ → ListOf → Result Y RecordFault → Type 0
-Judged first list (Ok _) = first ≡ None
-Judged first list (Err f) = (f.list ≡ list) × (first ≡ Some f.record)
+abbrev pub Kept : Rule → Content → Type 0
+Kept r c = (l : ListOf) → broken r c l ≡ None
 
 -- which rule the content breaks first, and where
 abbrev pub Breaks : Content → RuleFault → Type 0

@@ -1,5 +1,7 @@
-use Rattle.std.specs.Prelude.{ℕ, ◌+◌, Bool, true, false, cond, ◌&&◌, length, Option, ◌==◌, nat_le, nat_lt}
+-- What each record must keep, for either rule.
+use Rattle.std.specs.Prelude.{ℕ, ◌+◌, Bool, true, false, cond, ◌&&◌, length, is_some, Option, ◌==◌, nat_le, nat_lt}
 use Rattle.std.specs.List.{slice_get}
+use Rattle.std.specs.Option.{option_map}
 use Rattle.content.specs.declared.kind.Kind.{Kind}
 use Rattle.content.specs.declared.kind.Kind.TheVariants as kind
 use Rattle.content.specs.declared.typed.Typed.{Typed}
@@ -10,7 +12,7 @@ use Rattle.content.specs.declared.instruction.Instruction.TheVariants as op
 use Rattle.parts.specs.Content.{Content}
 use Rattle.rules.specs.declared.rule.Rule.{Rule}
 use Rattle.rules.specs.declared.rule.Rule.TheVariants.{Names, Types}
-use Rattle.rules.specs.Types.{atomic, sized, number, function, pointee, global_type, field_type, kind_at, local_type, same}
+use Rattle.rules.specs.Types.{atomic, size, number, function, pointee, field_type, kind_at, local_type, same}
 
 -- a pointer names a type, a record a range of fields
 abbrev pub kind_keeps : Rule → Content → Kind → Bool
@@ -26,62 +28,50 @@ typed_keeps Types c t = atomic (slice_get c.types t.kind)
 -- globals name a type, which is atomic or a record
 abbrev pub global_keeps : Rule → Content → Global → Bool
 global_keeps Names c g = nat_lt g.kind (length c.types)
-global_keeps Types c g = sized (slice_get c.types g.kind)
+global_keeps Types c g = is_some (size (slice_get c.types g.kind))
 
 -- functions name a range of instructions and a range of locals
 abbrev pub function_keeps : Rule → Content → Function → Bool
 function_keeps Names c f = nat_le (f.first + f.count) (length c.code) && nat_le (f.first_local + f.locals) (length c.locals)
 function_keeps Types c f = true
 
--- what an instruction names is there: locals and places of its function, functions, globals
-abbrev pub named : Content → Function → Instruction → Bool
-named c f (op.Set x n) = nat_lt x f.locals
-named c f (op.Add x y z) = nat_lt x f.locals && nat_lt y f.locals && nat_lt z f.locals
-named c f (op.Subtract x y z) = nat_lt x f.locals && nat_lt y f.locals && nat_lt z f.locals
-named c f (op.Less x y z) = nat_lt x f.locals && nat_lt y f.locals && nat_lt z f.locals
-named c f (op.Cast x y) = nat_lt x f.locals && nat_lt y f.locals
-named c f (op.Jump to) = nat_lt to f.count
-named c f (op.Branch x to) = nat_lt x f.locals && nat_lt to f.count
-named c f (op.Function x g) = nat_lt x f.locals && nat_lt g (length c.functions)
-named c f (op.Global x g) = nat_lt x f.locals && nat_lt g (length c.globals)
-named c f (op.Allocate x y) = nat_lt x f.locals && nat_lt y f.locals
-named c f (op.Move x y z) = nat_lt x f.locals && nat_lt y f.locals && nat_lt z f.locals
-named c f (op.Field x y k) = nat_lt x f.locals && nat_lt y f.locals
-named c f (op.Load x y) = nat_lt x f.locals && nat_lt y f.locals
-named c f (op.Store x y) = nat_lt x f.locals && nat_lt y f.locals
-named c f (op.Call g) = nat_lt g (length c.functions)
-named c f (op.CallThrough x) = nat_lt x f.locals
-named c f op.Return = true
+module _ (c : Content) (f : Function) where
+  -- the kind of local x
+  abbrev pub kind_of : ℕ → Option Kind
+  kind_of x = kind_at c.types (local_type c.locals f x)
 
--- the kind of local x, of what it points at, and the type that it points at
-abbrev pub kind_of : Content → Function → ℕ → Option Kind
-kind_of c f x = kind_at c.types (local_type c.locals f x)
+  -- the type that it points at
+  abbrev pub target : ℕ → Option ℕ
+  target x = pointee (kind_of x)
 
-abbrev pub target : Content → Function → ℕ → Option ℕ
-target c f x = pointee (kind_of c f x)
+  -- the kind of what it points at
+  abbrev pub target_kind : ℕ → Option Kind
+  target_kind x = kind_at c.types (target x)
 
-abbrev pub target_kind : Content → Function → ℕ → Option Kind
-target_kind c f x = kind_at c.types (target c f x)
+  -- local x is there
+  abbrev pub here : ℕ → Bool
+  here x = nat_lt x f.locals
 
--- an instruction's types are right; types are the same if their numbers are
-abbrev pub typed : Content → Function → Instruction → Bool
-typed c f (op.Set x n) = number (kind_of c f x)
-typed c f (op.Add x y z) = number (kind_of c f x) && number (kind_of c f y) && number (kind_of c f z)
-typed c f (op.Subtract x y z) = number (kind_of c f x) && number (kind_of c f y) && number (kind_of c f z)
-typed c f (op.Less x y z) = number (kind_of c f x) && number (kind_of c f y) && number (kind_of c f z)
-typed c f (op.Cast x y) = true
-typed c f (op.Jump to) = true
-typed c f (op.Branch x to) = number (kind_of c f x)
-typed c f (op.Function x g) = function (target_kind c f x)
-typed c f (op.Global x g) = same (target c f x) (global_type (slice_get c.globals g))
-typed c f (op.Allocate x y) = sized (target_kind c f x) && number (kind_of c f y)
-typed c f (op.Move x y z) = same (local_type c.locals f x) (local_type c.locals f y) && sized (target_kind c f x) && number (kind_of c f z)
-typed c f (op.Field x y k) = same (target c f x) (field_type c.fields (target_kind c f y) k)
-typed c f (op.Load x y) = same (target c f y) (local_type c.locals f x)
-typed c f (op.Store x y) = same (target c f y) (local_type c.locals f x)
-typed c f (op.Call g) = true
-typed c f (op.CallThrough x) = function (target_kind c f x)
-typed c f op.Return = true
+  -- what an instruction names is there: locals and places of its function, functions, globals; and its types are right, the same where their numbers are
+  abbrev pub instruction_row : Instruction → Bool × Bool
+  instruction_row (op.Set x n) = (here x, number (kind_of x))
+  instruction_row (op.Add x y z) = (here x && here y && here z, number (kind_of x) && number (kind_of y) && number (kind_of z))
+  instruction_row (op.Subtract x y z) = (here x && here y && here z, number (kind_of x) && number (kind_of y) && number (kind_of z))
+  instruction_row (op.Less x y z) = (here x && here y && here z, number (kind_of x) && number (kind_of y) && number (kind_of z))
+  instruction_row (op.Cast x y) = (here x && here y, true)
+  instruction_row (op.Jump to) = (nat_lt to f.count, true)
+  instruction_row (op.Branch x to) = (here x && nat_lt to f.count, number (kind_of x))
+  instruction_row (op.Function x g) = (here x && nat_lt g (length c.functions), function (target_kind x))
+  instruction_row (op.Global x g) = (here x && nat_lt g (length c.globals), same (target x) (option_map (λ h. h.kind) (slice_get c.globals g)))
+  instruction_row (op.Allocate x y) = (here x && here y, is_some (size (target_kind x)) && number (kind_of y))
+  instruction_row (op.Move x y z) =
+      (here x && here y && here z, same (local_type c.locals f x) (local_type c.locals f y) && is_some (size (target_kind x)) && number (kind_of z))
+  instruction_row (op.Field x y k) = (here x && here y, same (target x) (field_type c.fields (target_kind y) k))
+  instruction_row (op.Load x y) = (here x && here y, same (target y) (local_type c.locals f x))
+  instruction_row (op.Store x y) = (here x && here y, same (target y) (local_type c.locals f x))
+  instruction_row (op.Call g) = (nat_lt g (length c.functions), true)
+  instruction_row (op.CallThrough x) = (here x, function (target_kind x))
+  instruction_row op.Return = (true, true)
 
 -- the instructions that may stand last
 abbrev pub ends : Instruction → Bool
@@ -91,5 +81,5 @@ ends _ = false
 
 -- the instruction at place i of function f
 abbrev pub instruction_keeps : Rule → Content → Function → ℕ → Instruction → Bool
-instruction_keeps Names c f i o = named c f o
-instruction_keeps Types c f i o = typed c f o && cond (i + 1 == f.count) (ends o) true
+instruction_keeps Names c f i o = (instruction_row c f o).0
+instruction_keeps Types c f i o = (instruction_row c f o).1 && cond (i + 1 == f.count) (ends o) true

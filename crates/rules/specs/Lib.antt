@@ -3,3 +3,4 @@ pub mod Keeping
 pub mod Judging
 pub mod Faults
 pub mod Texts
+pub mod inside

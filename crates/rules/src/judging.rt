@@ -1,71 +1,68 @@
 // The lists judged in order, for one rule after the other.
-ghost use Rattle.std.specs.Prelude.{◌≡◌, MatchResult};
-ghost use Rattle.std.specs.List.{range_with_len};
-ghost use Rattle.parts.specs.Content.{viewed};
+ghost use Rattle.std.specs.Prelude.{◌≡◌, MatchResult, not, position, unwrap_or};
+ghost use Rattle.parts.specs.Content.{shown};
+ghost use Rattle.records.specs.Rows.{words_in, readings};
 ghost use Rattle.records.specs.declared.list.ListOf.TheVariants.{Code};
 ghost use Rattle.rules.specs.declared.rule.Rule.TheVariants.{Names, Types};
-ghost use Rattle.rules.specs.Judging.{place_keeps, first_in, broken_by, broken_by_any, FirstBroken, Judged, Kept, Breaks};
+ghost use Rattle.rules.specs.Judging.{first_in, broken_by, broken_by_any, FirstBroken, Kept, Breaks};
+ghost use Rattle.rules.specs.inside.Judged.{Judged};
 
 use crate::fault::RuleFault;
-use crate::lookup::item_at;
 use crate::place::Scope;
 use crate::rule::Rule;
 use crate::ruled::{Ruled, Ruling};
 use content::function::Function;
-use parts::lists::Lists;
+use parts::image::Image;
+use parts::items::{FUNCTION, GLOBAL, KIND, TYPED};
 use records::list::ListOf;
-use records::record::RecordFault;
+use records::record::{Record, RecordFault};
+use records::rows::read_or;
 
 impl<'a> Ruling<'a> {
-    // The first record that breaks the rule.
-    fn broken_in<R: Ruled>(&self, records: &[R]) -> Option<usize>
-        ensures { result ≡ first_in (R.keeps self.now.rule (viewed self.now.lists.now)) records.now }
+    // The first record that breaks the rule. The closure has a clause, since none is found for a generic one.
+    fn broken_in<R: Ruled + Record<N>, const N: usize>(
+        &self,
+        rows: &[[[u8; 4]; N]],
+        blank: R,
+    ) -> Option<usize>
+        ensures { result ≡ position (λ r. not (R.keeps self.now.rule (shown self.now.image.now) (unwrap_or (R.meant (words_in r)) blank))) rows.now }
     {
-        records.iter().position(|r| !r.passes(self))
+        rows.iter().position(
+            |row| -> bool
+                ensures { result ≡ not (R.keeps self.entry.now.rule (shown self.entry.now.image.now) (unwrap_or (R.meant (words_in row.now)) blank)) }
+            { !read_or(row, blank).passes(self) },
+        )
     }
 
-    fn judge_list<R: Ruled>(&self, records: &[R], list: ListOf) -> Result<(), RecordFault>
-        ensures { Judged (first_in (R.keeps self.now.rule (viewed self.now.lists.now)) records.now) list result }
+    fn judge_list<R: Ruled + Record<N>, const N: usize>(
+        &self,
+        rows: &[[[u8; 4]; N]],
+        blank: R,
+        list: ListOf,
+    ) -> Result<(), RecordFault>
+        ensures { Judged (first_in (R.keeps self.now.rule (shown self.now.image.now)) (readings R.meant blank rows.now)) list result }
     {
-        match self.broken_in(records) {
+        match self.broken_in(rows, blank) {
             Some(record) => Err(RecordFault { list, record }),
             None => Ok(()),
         }
     }
 
-    // The instruction at place `i` of a function keeps the rule; one that isn't there breaks nothing.
-    fn passes_at(&self, f: &Function, i: u32) -> bool
-        ensures { result ≡ place_keeps self.now.rule (viewed self.now.lists.now) f.now i }
-    {
-        let scope = Scope {
-            lists: self.lists,
-            function: f,
-        };
-        match item_at(self.lists.code, f.first as usize + i as usize) {
-            Some(instruction) => scope.passes(self.rule, i, instruction),
-            None => true,
-        }
-    }
-
-    // The first place of a function where its instruction breaks the rule.
-    fn broken_at(&self, f: &Function) -> Option<u32>
-        ensures { result ≡ first_in (place_keeps self.now.rule (viewed self.now.lists.now) f.now) (range_with_len 0 f.now.count) }
-    {
-        (0..f.count).find(|i| !self.passes_at(f, *i))
-    }
-
-    // That instruction's place in the list of code.
+    // The first instruction of a function that breaks the rule there, by its place in the list of code.
     fn broken_code(&self, f: &Function) -> Option<usize>
-        ensures { result ≡ broken_by self.now.rule (viewed self.now.lists.now) f.now }
+        ensures { result ≡ broken_by self.now.rule (shown self.now.image.now) f.now }
     {
-        self.broken_at(f).map(|i| f.first as usize + i as usize)
+        let scope = Scope::of(self.image, f);
+        scope
+            .broken_at(self.rule)
+            .map(|i| f.first as usize + i as usize)
     }
 
     fn judge_functions(&self) -> Result<(), RecordFault>
-        ensures { Judged (broken_by_any self.now.rule (viewed self.now.lists.now) (viewed self.now.lists.now).functions) Code result }
+        ensures { Judged (broken_by_any self.now.rule (shown self.now.image.now) (shown self.now.image.now).functions) Code result }
     {
-        for f in self.lists.functions {
-            if let Some(record) = self.broken_code(f) {
+        for row in self.image.functions {
+            if let Some(record) = self.broken_code(&read_or(row, FUNCTION)) {
                 return Err(RecordFault {
                     list: ListOf::Code,
                     record,
@@ -77,22 +74,22 @@ impl<'a> Ruling<'a> {
 }
 
 #[tactic(auto, using(crate::proofs::Keeps::all_kept))]
-fn judge(rule: Rule, lists: &Lists) -> Result<(), RecordFault>
-    ensures { MatchResult result (λ _. Kept rule (viewed lists.now)) (λ f. FirstBroken rule (viewed lists.now) f) }
+fn judge(rule: Rule, image: &Image) -> Result<(), RecordFault>
+    ensures { MatchResult result (λ _. Kept rule (shown image.now)) (λ f. FirstBroken rule (shown image.now) f) }
 {
-    let ruling = Ruling { rule, lists };
-    ruling.judge_list(lists.types, ListOf::Types)?;
-    ruling.judge_list(lists.fields, ListOf::Fields)?;
-    ruling.judge_list(lists.globals, ListOf::Globals)?;
-    ruling.judge_list(lists.locals, ListOf::Locals)?;
-    ruling.judge_list(lists.functions, ListOf::Functions)?;
+    let ruling = Ruling { rule, image };
+    ruling.judge_list(image.types, KIND, ListOf::Types)?;
+    ruling.judge_list(image.fields, TYPED, ListOf::Fields)?;
+    ruling.judge_list(image.globals, GLOBAL, ListOf::Globals)?;
+    ruling.judge_list(image.locals, TYPED, ListOf::Locals)?;
+    ruling.judge_list(image.functions, FUNCTION, ListOf::Functions)?;
     ruling.judge_functions()
 }
 
 // The first rule that the lists break, if they break one.
-pub fn check(lists: &Lists) -> Result<(), RuleFault>
-    ensures { MatchResult result (λ _. Kept Names (viewed lists.now) × Kept Types (viewed lists.now)) (λ e. Breaks (viewed lists.now) e) }
+pub fn check(image: &Image) -> Result<(), RuleFault>
+    ensures { MatchResult result (λ _. Kept Names (shown image.now) × Kept Types (shown image.now)) (λ e. Breaks (shown image.now) e) }
 {
-    judge(Rule::Names, lists).map_err(RuleFault::Unnamed)?;
-    judge(Rule::Types, lists).map_err(RuleFault::Mistyped)
+    judge(Rule::Names, image).map_err(RuleFault::Unnamed)?;
+    judge(Rule::Types, image).map_err(RuleFault::Mistyped)
 }

@@ -1,12 +1,13 @@
 // What a type is, found by its number.
 ghost use Rattle.std.specs.Prelude.{◌≡◌, ◌+◌};
 ghost use Rattle.std.specs.List.{slice_get};
-ghost use Rattle.rules.specs.Types.{type_of, size, atomic, sized, number, function, pointee, global_type, field_type, kind_at, local_type, same};
+ghost use Rattle.rules.specs.Types.{size, atomic, number, function, pointee, field_type, kind_at, local_type, same};
+ghost use Rattle.rules.specs.inside.Rows.{sized, type_of, global_type};
+ghost use Rattle.parts.specs.Content.{kinds, typed, globals};
 
 use content::function::Function;
-use content::global::Global;
 use content::kind::Kind;
-use content::typed::Typed;
+use parts::items::{global_at, kind_at, typed_at};
 
 pub fn item_at<R: Copy>(items: &[R], i: usize) -> Option<R>
     ensures { result ≡ slice_get items.now i }
@@ -14,10 +15,10 @@ pub fn item_at<R: Copy>(items: &[R], i: usize) -> Option<R>
     items.get(i).copied()
 }
 
-pub(crate) fn kind_at(types: &[Kind], t: Option<u32>) -> Option<Kind>
-    ensures { result ≡ kind_at types.now t }
+pub(crate) fn kind_of_type(types: &[[[u8; 4]; 3]], t: Option<u32>) -> Option<Kind>
+    ensures { result ≡ kind_at (kinds types.now) t }
 {
-    item_at(types, t? as usize)
+    kind_at(types, t? as usize)
 }
 
 pub(crate) fn atomic(kind: Option<Kind>) -> bool
@@ -53,20 +54,20 @@ pub(crate) fn pointee(kind: Option<Kind>) -> Option<u32>
     }
 }
 
-pub(crate) fn type_at(list: &[Typed], first: u32, k: u32) -> Option<u32>
-    ensures { result ≡ type_of (slice_get list.now (first + k)) }
+pub(crate) fn type_at(list: &[[[u8; 4]; 1]], first: u32, k: u32) -> Option<u32>
+    ensures { result ≡ type_of (slice_get (typed list.now) (first + k)) }
 {
-    item_at(list, first as usize + k as usize).map(|typed| typed.kind)
+    typed_at(list, first as usize + k as usize).map(|typed| typed.kind)
 }
 
-pub(crate) fn global_type(globals: &[Global], g: u32) -> Option<u32>
-    ensures { result ≡ global_type (slice_get globals.now g) }
+pub(crate) fn global_type(list: &[[[u8; 4]; 2]], g: u32) -> Option<u32>
+    ensures { result ≡ global_type (slice_get (globals list.now) g) }
 {
-    item_at(globals, g as usize).map(|global| global.kind)
+    global_at(list, g as usize).map(|global| global.kind)
 }
 
-pub(crate) fn field_type(fields: &[Typed], kind: Option<Kind>, k: u32) -> Option<u32>
-    ensures { result ≡ field_type fields.now kind k }
+pub(crate) fn field_type(fields: &[[[u8; 4]; 1]], kind: Option<Kind>, k: u32) -> Option<u32>
+    ensures { result ≡ field_type (typed fields.now) kind k }
 {
     match kind? {
         Kind::Fields { first, count } if k < count => type_at(fields, first, k),
@@ -75,8 +76,8 @@ pub(crate) fn field_type(fields: &[Typed], kind: Option<Kind>, k: u32) -> Option
 }
 
 // The type of local x of the function.
-pub fn local_type(locals: &[Typed], function: &Function, x: u32) -> Option<u32>
-    ensures { result ≡ local_type locals.now function.now x }
+pub fn local_type(locals: &[[[u8; 4]; 1]], function: &Function, x: u32) -> Option<u32>
+    ensures { result ≡ local_type (typed locals.now) function.now x }
 {
     if x < function.locals {
         type_at(locals, function.first_local, x)

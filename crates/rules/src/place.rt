@@ -1,60 +1,97 @@
 // What an instruction must keep in a function that has it.
-ghost use Rattle.std.specs.Prelude.{◌≡◌};
-ghost use Rattle.parts.specs.Content.{viewed};
+ghost use Rattle.std.specs.Prelude.{◌≡◌, ℕ, ◌<◌, None, get_or};
+ghost use Rattle.std.specs.List.{range_with_len};
+ghost use Rattle.parts.specs.Content.{shown};
 ghost use Rattle.rules.specs.Types.{number, local_type};
-ghost use Rattle.rules.specs.Keeping.{named, typed, ends, kind_of, target, target_kind, instruction_keeps};
+ghost use Rattle.rules.specs.Keeping.{ends, kind_of, target, target_kind, instruction_keeps};
+ghost use Rattle.rules.specs.inside.Rows.{named, typed};
+ghost use Rattle.rules.specs.Judging.{place_keeps, first_in};
 
 use crate::lookup::{
-    field_type, function, global_type, kind_at, local_type, number, pointee, same, sized,
+    field_type, function, global_type, kind_of_type, local_type, number, pointee, same, sized,
 };
 use crate::rule::Rule;
 use content::function::Function;
 use content::instruction::Instruction;
 use content::kind::Kind;
-use parts::lists::Lists;
+use parts::image::Image;
+use parts::items::instruction_at;
 
 // A function among the lists that it stands in.
 #[derive(Clone, Copy)]
 pub struct Scope<'a> {
-    pub lists: &'a Lists<'a>,
-    pub function: &'a Function,
+    image: &'a Image<'a>,
+    function: &'a Function,
+    // The kinds of its first locals, and a function has no more than eight: nothing is asked for more often.
+    kinds: [Option<Kind>; 8],
+    ghost known: { (x : ℕ) → x < 8 → get_or kinds x None ≡ kind_of (shown image.now) function.now x },
+}
+
+fn kind_of_local(image: &Image, function: &Function, x: u32) -> Option<Kind>
+    ensures { result ≡ kind_of (shown image.now) function.now x }
+{
+    kind_of_type(image.types, local_type(image.locals, function, x))
+}
+
+fn kinds_of(image: &Image, function: &Function) -> [Option<Kind>; 8]
+    ensures { (x : ℕ) → x < 8 → get_or result x None ≡ kind_of (shown image.now) function.now x }
+{
+    let mut kinds = [None; 8];
+    for (x, kind) in kinds.iter_mut().enumerate() {
+        *kind = kind_of_local(image, function, x as u32);
+    }
+    kinds
 }
 
 impl<'a> Scope<'a> {
+    pub fn of(image: &'a Image<'a>, function: &'a Function) -> Scope<'a>
+        ensures image { result.image.now ≡ image.now }
+        ensures function { result.function.now ≡ function.now }
+    {
+        Scope {
+            image,
+            function,
+            kinds: kinds_of(image, function),
+        }
+    }
+
     // The type of local x.
     pub fn local_type(&self, x: u32) -> Option<u32>
-        ensures { result ≡ local_type (viewed self.now.lists.now).locals self.now.function.now x }
+        ensures { result ≡ local_type (shown self.now.image.now).locals self.now.function.now x }
     {
-        local_type(self.lists.locals, self.function, x)
+        local_type(self.image.locals, self.function, x)
     }
 
     fn kind_of(&self, x: u32) -> Option<Kind>
-        ensures { result ≡ kind_of (viewed self.now.lists.now) self.now.function.now x }
+        ensures { result ≡ kind_of (shown self.now.image.now) self.now.function.now x }
     {
-        kind_at(self.lists.types, self.local_type(x))
+        match self.kinds.get(x as usize) {
+            Some(kind) => *kind,
+            None => kind_of_local(self.image, self.function, x),
+        }
     }
 
     // The type that local x points at.
     fn target(&self, x: u32) -> Option<u32>
-        ensures { result ≡ target (viewed self.now.lists.now) self.now.function.now x }
+        ensures { result ≡ target (shown self.now.image.now) self.now.function.now x }
     {
         pointee(self.kind_of(x))
     }
 
     pub fn target_kind(&self, x: u32) -> Option<Kind>
-        ensures { result ≡ target_kind (viewed self.now.lists.now) self.now.function.now x }
+        ensures { result ≡ target_kind (shown self.now.image.now) self.now.function.now x }
     {
-        kind_at(self.lists.types, self.target(x))
+        kind_of_type(self.image.types, self.target(x))
     }
 
     fn named(&self, instruction: Instruction) -> bool
-        ensures { result ≡ named (viewed self.now.lists.now) self.now.function.now instruction }
+        ensures { result ≡ named (shown self.now.image.now) self.now.function.now instruction }
     {
-        let Lists {
+        let Image {
             functions,
             globals,
             ..
-        } = *self.lists;
+        } = *self.image;
         let Function {
             count,
             locals: n,
@@ -81,15 +118,15 @@ impl<'a> Scope<'a> {
     }
 
     fn is_number(&self, x: u32) -> bool
-        ensures { result ≡ number (kind_of (viewed self.now.lists.now) self.now.function.now x) }
+        ensures { result ≡ number (kind_of (shown self.now.image.now) self.now.function.now x) }
     {
         number(self.kind_of(x))
     }
 
     fn typed(&self, instruction: Instruction) -> bool
-        ensures { result ≡ typed (viewed self.now.lists.now) self.now.function.now instruction }
+        ensures { result ≡ typed (shown self.now.image.now) self.now.function.now instruction }
     {
-        let lists = self.lists;
+        let image = self.image;
         match instruction {
             Instruction::Set { x, .. } | Instruction::Branch { x, .. } => self.is_number(x),
             Instruction::Add { x, y, z }
@@ -102,7 +139,7 @@ impl<'a> Scope<'a> {
             }
             Instruction::Global { x, global } => same(
                 self.target(x),
-                global_type(lists.globals, global),
+                global_type(image.globals, global),
             ),
             Instruction::Allocate { x, y } => sized(self.target_kind(x)) && self.is_number(y),
             Instruction::Move { x, y, z } => {
@@ -113,7 +150,7 @@ impl<'a> Scope<'a> {
             Instruction::Field { x, y, field } => {
                 same(
                     self.target(x),
-                    field_type(lists.fields, self.target_kind(y), field),
+                    field_type(image.fields, self.target_kind(y), field),
                 )
             }
             Instruction::Load { x, y } | Instruction::Store { x, y } => {
@@ -127,14 +164,30 @@ impl<'a> Scope<'a> {
     }
 
     // The instruction at place `i` of the function keeps the rule there.
-    pub(crate) fn passes(&self, rule: Rule, i: u32, instruction: Instruction) -> bool
-        ensures { result ≡ instruction_keeps rule (viewed self.now.lists.now) self.now.function.now i instruction }
+    fn passes(&self, rule: Rule, i: u32, instruction: Instruction) -> bool
+        ensures { result ≡ instruction_keeps rule (shown self.now.image.now) self.now.function.now i instruction }
     {
         match rule {
             Rule::Names => self.named(instruction),
             Rule::Types => self.typed(instruction)
                 && (i as u64 + 1 != self.function.count as u64 || ends(instruction)),
         }
+    }
+    // The same of what stands there; an instruction that isn't there breaks nothing.
+    fn passes_at(&self, rule: Rule, i: u32) -> bool
+        ensures { result ≡ place_keeps rule (shown self.now.image.now) self.now.function.now i }
+    {
+        match instruction_at(self.image.code, self.function.first as usize + i as usize) {
+            Some(instruction) => self.passes(rule, i, instruction),
+            None => true,
+        }
+    }
+
+    // The first place of the function where its instruction breaks the rule.
+    pub(crate) fn broken_at(&self, rule: Rule) -> Option<u32>
+        ensures { result ≡ first_in (place_keeps rule (shown self.now.image.now) self.now.function.now) (range_with_len 0 self.now.function.now.count) }
+    {
+        (0..self.function.count).find(|i| !self.passes_at(rule, *i))
     }
 }
 

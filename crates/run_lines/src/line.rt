@@ -1,8 +1,10 @@
 // A line about runs or the memory, read into what it asks for.
-ghost use Rattle.std.specs.Prelude.{◌≡◌};
+ghost use Rattle.std.specs.Prelude.{◌≡◌, ◌∷◌};
 ghost use Rattle.std.specs.Str.{bytes_eq};
+ghost use Rattle.words.specs.Forms.{ends, largest, number, read};
 ghost use Rattle.words.specs.Words.{words as split};
-ghost use Rattle.run_lines.specs.Asks.{alone_words, asked_words, bare_of, number_words, poke_words, verb_words};
+ghost use Rattle.run_lines.specs.Asks.{runs};
+ghost use Rattle.run_lines.specs.declared.line.RunLine.TheVariants as line;
 
 use words::fault::Fault;
 use words::words::Words;
@@ -30,23 +32,31 @@ pub enum RunLine {
     Status,
 }
 
-#[tactic(auto, unfolding(crate::specs::Asks::number_words))]
+#[tactic(auto, unfolding(words::specs::Forms::number, words::specs::Forms::ends))]
 fn number(most: u32, words: &mut Words) -> Result<u32, Fault>
-    ensures { result ≡ number_words most words.old }
+    ensures { result ≡ number most ends words.old }
 {
     let number = words.number(most)?;
     words.end()?;
     Ok(number)
 }
 
-#[tactic(auto, unfolding(crate::specs::Asks::poke_words))]
+#[tactic(auto, unfolding(words::specs::Forms::number, words::specs::Forms::ends))]
 fn poke(words: &mut Words) -> Result<RunLine, Fault>
-    ensures { result ≡ poke_words words.old }
+    ensures { result ≡ number largest (λ a. number largest (λ w. ends (line.Poke a w))) words.old }
 {
     let address = words.number(u32::MAX)?;
     let word = words.number(u32::MAX)?;
     words.end()?;
     Ok(RunLine::Poke(address, word))
+}
+
+#[tactic(auto, unfolding(words::specs::Forms::ends))]
+fn bare(line: RunLine, words: &mut Words) -> Result<RunLine, Fault>
+    ensures { result ≡ ends line words.old }
+{
+    words.end()?;
+    Ok(line)
 }
 
 // A pattern takes each letter as a step of its own, and in long words their proof ends at a limit.
@@ -56,57 +66,41 @@ fn spells(word: &[u8], text: &[u8]) -> bool
     word == text
 }
 
-// The line that its first word says whole.
-#[tactic(auto, unfolding(crate::specs::Asks::bare_of))]
-fn bare(verb: &[u8]) -> Option<RunLine>
-    ensures { result ≡ bare_of verb.now }
-{
-    if spells(verb, b"begin") {
-        Some(RunLine::Begin)
-    } else if spells(verb, b"digest") {
-        Some(RunLine::Digest)
-    } else if spells(verb, b"step") {
-        Some(RunLine::Step)
-    } else if spells(verb, b"frames") {
-        Some(RunLine::Frames)
-    } else if spells(verb, b"entries") {
-        Some(RunLine::Entries)
-    } else if spells(verb, b"status") {
-        Some(RunLine::Status)
-    } else {
-        None
-    }
-}
-
-#[tactic(auto, unfolding(crate::specs::Asks::alone_words))]
-fn alone(verb: &[u8], words: &mut Words) -> Option<Result<RunLine, Fault>>
-    ensures { result ≡ alone_words verb.now words.old }
-{
-    let line = bare(verb)?;
-    Some(words.end().map(|()| line))
-}
-
 // The verb is read before it is known who reads the other words, so that both are handed on.
-#[tactic(auto, unfolding(crate::specs::Asks::verb_words))]
+#[tactic(auto, unfolding(words::specs::Forms::read))]
 fn asked(verb: &[u8], words: &mut Words) -> Option<Result<RunLine, Fault>>
-    ensures { result ≡ verb_words verb.now words.old }
+    ensures { result ≡ read runs (verb.now ∷ words.old) }
 {
-    if spells(verb, b"memory") {
-        Some(number(MOST_WORDS, words).map(RunLine::Memory))
+    let line = if spells(verb, b"memory") {
+        number(MOST_WORDS, words).map(RunLine::Memory)
     } else if spells(verb, b"poke") {
-        Some(poke(words))
+        poke(words)
     } else if spells(verb, b"peek") {
-        Some(number(u32::MAX, words).map(RunLine::Peek))
+        number(u32::MAX, words).map(RunLine::Peek)
+    } else if spells(verb, b"digest") {
+        bare(RunLine::Digest, words)
+    } else if spells(verb, b"begin") {
+        bare(RunLine::Begin, words)
+    } else if spells(verb, b"step") {
+        bare(RunLine::Step, words)
     } else if spells(verb, b"go") {
-        Some(number(MOST_EVENTS, words).map(RunLine::Go))
+        number(MOST_EVENTS, words).map(RunLine::Go)
+    } else if spells(verb, b"frames") {
+        bare(RunLine::Frames, words)
+    } else if spells(verb, b"entries") {
+        bare(RunLine::Entries, words)
+    } else if spells(verb, b"status") {
+        bare(RunLine::Status, words)
     } else {
-        alone(verb, words)
-    }
+        return None;
+    };
+    Some(line)
 }
 
 // What the line asks for, or nothing where it isn't about runs or the memory.
+#[tactic(auto, unfolding(words::specs::Forms::read))]
 pub fn parse(line: &[u8]) -> Option<Result<RunLine, Fault>>
-    ensures { result ≡ asked_words (split line.now) }
+    ensures { result ≡ read runs (split line.now) }
 {
     let mut words = Words::of(line);
     let verb = words.next()?;

@@ -4,3 +4,4 @@ pub mod Clear
 pub mod Turns
 pub mod Staying
 pub mod Locals
+pub mod Newest

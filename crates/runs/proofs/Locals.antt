@@ -6,18 +6,19 @@ use Rattle.content.specs.declared.function.Function.{Function}
 use Rattle.content.specs.declared.instruction.Instruction.{Instruction}
 use Rattle.content.specs.declared.instruction.Instruction.TheVariants as op
 use Rattle.parts.specs.Content.{Content}
-use Rattle.rules.specs.Keeping.{named}
-use Rattle.module.specs.Modules.{said, in_function}
+use Rattle.rules.specs.inside.Rows.{named}
+use Rattle.module.specs.Modules.{said}
 use Rattle.module.specs.declared.module.Module.{Module}
 use Rattle.machine.specs.declared.frame.Frame.{Frame}
 use Rattle.integrity.proofs.Read.{functions_few}
 use Rattle.integrity.proofs.Rules.{Ruled, ruled}
 use Rattle.stack.specs.Stack.{newest}
-use Rattle.runs.specs.declared.run.Run.{Run}
+use Rattle.runs.specs.declared.run.Live.{Live}
+use Rattle.std.specs.List.{slice_get}
+use Rattle.machine.specs.Machine.{at_place}
 use Rattle.runs.specs.declared.entered.Entered.{Entered}
-use Rattle.runs.specs.Entering.{LocalsBelow}
-use Rattle.runs.specs.Seen.{IsNewest}
-use Rattle.runs.proofs.Turns.{whose_turn}
+use Rattle.runs.specs.inside.Entering.{LocalsBelow}
+use Rattle.runs.specs.inside.Making.{IsNewest}
 
 module _ (l : ℕ) (few : l ≤ 8) where
   one : (x : ℕ) → nat_lt x l ≡ true → x < 8
@@ -52,5 +53,7 @@ ruled_below : (m : Module) (f : Frame) (i : Instruction) → Ruled m f i → Loc
 ruled_below m f i r = named_below (said m) r.owner (functions_few m f.function r.owner r.owner_is) i r.names
 
 -- the instruction whose turn it is names locals that its frame has, by the rules
-pub locals_below : {S : Type 0} (r : Run S) (e : Entered) (i : Instruction) → IsNewest r e → Some i ≡ in_function (said r.module) (Some e.function) (newest r.stack).place → LocalsBelow i
-locals_below r e i h at = ruled_below r.module (newest r.stack) i (ruled r.module (newest r.stack) i (sym (at ∙ whose_turn r e h)))
+pub locals_below : {S : Type 0} (e : Entered) (l : Live S) (place : ℕ) (i : Instruction) → IsNewest e l → Some i ≡ slice_get e.code.now place → LocalsBelow i
+locals_below e l place i h at =
+    let f : Frame = at_place (newest l.stack) place in
+    ruled_below e.module.now f i (ruled e.module.now f i (sym (at ∙ h.code place)))

@@ -1,6 +1,6 @@
 -- How far a go has come, and one step more.
 use Rattle.std.specs.Prelude.{◌≡◌, ℕ, ◌+◌, ◌<◌, ◌≤◌, List, [], ◌∷◌, ◌++◌, length, map, take, drop, slice_set, false, Ok, Err, refl}
-use Rattle.std.proofs.Common.{arith, ap, sym, subst, ◌∙◌}
+use Rattle.std.proofs.Common.{arith, ap, sym, subst, take-append-drop, ◌∙◌}
 use Rattle.std.proofs.lemmas.List.{take_more_set, drop-set-lt, length-set, length-append, map-append, drop-drop}
 use Rattle.module.specs.Modules.{said}
 use Rattle.module.specs.declared.module.Module.{Module}
@@ -53,7 +53,17 @@ one_more m m' s events n s' events' e s'' same p lt q =
 went : (m : Module) (s : Sight) (events : List Event) (n : ℕ) (s' : Sight) (events' : List Event) (c : Came) (s'' : Sight)
     → Ready m s → Progress m s events n s' events' → Ends m c (length events) n s' s'' → Went m s events (record { made = n; came = c }) s'' events'
 went m s events n s' events' c s'' ready p ends =
-    record { steps = p.steps; last = s'; ready = ready; makes = p.makes; count = p.count; room = p.room; long = p.long; listed = p.listed; behind = p.behind; ends = ends }
+    let told = map (λ d. d.event) p.steps in
+    record {
+      steps = p.steps;
+      last = s';
+      ready = ready;
+      makes = p.makes;
+      count = p.count;
+      room = p.room;
+      listed = sym (take-append-drop n events') ∙ ap (λ l. l ++ drop n events') p.listed ∙ ap (λ l. told ++ l) p.behind;
+      ends = ends;
+    }
 
 pub went_full : (m : Module) (s : Sight) (events : List Event) (n : ℕ) (s' : Sight) (events' : List Event)
     → Ready m s → Progress m s events n s' events' → length events' ≤ n → over s'.state ≡ false → Went m s events (record { made = n; came = Full }) s' events'

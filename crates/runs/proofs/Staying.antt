@@ -15,11 +15,13 @@ use Rattle.machine.specs.declared.event.EventKind.TheVariants.{Called, CalledThr
 use Rattle.machine.specs.declared.refusal.Stop.{Stop}
 use Rattle.machine.specs.declared.refusal.NotReady.{NotReady}
 use Rattle.machine.specs.declared.refusal.Refusal.{Refusal}
-use Rattle.machine.specs.Values.{word, within}
+use Rattle.machine.specs.Values.{word}
+use Rattle.machine.specs.inside.Parts.{within}
 use Rattle.machine.specs.Frames.{value}
-use Rattle.machine.specs.Machine.{Sight, Act, Left, Step, makes, stops, refuses, enter, enter_through, leave, move, field_within, load_within, keep, store_within, make, take_turn, turn, instruction, sensitive, size}
+use Rattle.machine.specs.Machine.{Sight, Act, Left, Step, makes, stops, refuses, enter, enter_through, leave, move, field_within, load_within, keep, make, turn, instruction, sensitive, size}
+use Rattle.machine.specs.inside.Parts.{store_within, take_turn}
 use Rattle.stack.specs.Stack.{newest}
-use Rattle.runs.specs.Entering.{leaves}
+use Rattle.runs.specs.inside.Entering.{leaves}
 
 -- what was made, by a step that leaves no frame, has a frame of this function as the newest
 record Stays (n : ℕ) (l : Left) : Type 0 where

@@ -1,3 +1,3 @@
-pub mod Entering
 pub mod Seen
 pub mod Clearing
+pub mod inside

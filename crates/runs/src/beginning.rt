@@ -6,7 +6,7 @@ ghost use Rattle.machine.specs.Machine.{beginning};
 ghost use Rattle.runs.specs.Seen.{seen};
 ghost use Rattle.runs.specs.Clearing.{Cleared};
 
-use crate::run::Run;
+use crate::run::{Live, Run};
 use module::module::Module;
 use stack::stack::Stack;
 use stores::store::Store;
@@ -29,8 +29,8 @@ impl<S: Store<Entry = Marked>> Run<S> {
     pub fn begin(program: &Module, store: S) -> Run<S>
         ensures module { result.module ≡ program.now }
         ensures state { (memory : List ℕ) → (seen S.entry S.taken result memory).state ≡ beginning program.now }
-        ensures cleared { Cleared (said program.now).memory (S.entry store) (S.taken store) (S.entry result.store) (S.taken result.store) }
-        ensures kept { S.kept store result.store }
+        ensures cleared { Cleared (said program.now).memory (S.entry store) (S.taken store) (S.entry result.live.store) (S.taken result.live.store) }
+        ensures kept { S.kept store result.live.store }
         ensures integrity { (memory : List ℕ) → Integrity program.now (seen S.entry S.taken result memory) }
     {
         let mut store = store;
@@ -39,10 +39,12 @@ impl<S: Store<Entry = Marked>> Run<S> {
         stack.enter(0);
         Run {
             module: *program,
-            stack,
-            heap: program.heap(),
+            live: Live {
+                stack,
+                heap: program.heap(),
+                store,
+            },
             stopped: false,
-            store,
         }
     }
 }

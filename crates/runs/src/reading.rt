@@ -21,24 +21,24 @@ impl<S> Run<S> {
 
     // How many frames stand.
     pub fn depth(&self) -> usize
-        ensures { result ≡ length self.now.stack }
+        ensures { result ≡ length self.now.live.stack }
     {
-        self.stack.len()
+        self.live.stack.len()
     }
 
     // The frame that stands k below the newest.
     pub fn frame(&self, k: usize) -> Option<&Frame>
-        ensures { option_map (λ f. f.now) result ≡ slice_get self.now.stack k }
+        ensures { option_map (λ f. f.now) result ≡ slice_get self.now.live.stack k }
     {
-        self.stack.get(k)
+        self.live.stack.get(k)
     }
 
     pub fn status(&self) -> Status
-        ensures { result ≡ status_of self.now.stopped self.now.stack }
+        ensures { result ≡ status_of self.now.stopped self.now.live.stack }
     {
         if self.stopped {
             Status::Stopped
-        } else if self.stack.len() == 0 {
+        } else if self.live.stack.len() == 0 {
             Status::Ended
         } else {
             Status::Running
@@ -49,10 +49,10 @@ impl<S> Run<S> {
 impl<S: Store<Entry = Marked>> Run<S> {
     // What the store holds at an address below the memory size.
     pub fn entry(&self, a: u32) -> Option<Marked>
-        ensures { result ≡ (if nat_lt a (said self.now.module).memory then S.entry self.now.store a else None) }
+        ensures { result ≡ (if nat_lt a (said self.now.module).memory then S.entry self.now.live.store a else None) }
     {
         if a < self.module.memory() {
-            self.store.get(a)
+            self.live.store.get(a)
         } else {
             None
         }

@@ -1,2 +1,2 @@
 pub mod Sensitive
-pub mod Marks
+pub mod inside

@@ -5,8 +5,8 @@ ghost use Rattle.std.specs.Prelude.{◌≡◌, ℕ, ◌≤◌, false, length, So
 ghost use Rattle.std.specs.Option.{IfSome};
 ghost use Rattle.std.specs.List.{slice_get};
 ghost use Rattle.parts.specs.Content.{content};
-ghost use Rattle.sensitivity.specs.Sensitive.{First, Sensitive};
-ghost use Rattle.sensitivity.specs.Marks.{Marked, NoMark, ToMark, Due, Round};
+ghost use Rattle.sensitivity.specs.Sensitive.{First, Sensitive, IsMarked, NoMark, ToMark};
+ghost use Rattle.sensitivity.specs.inside.Rounds.{Due, Round};
 
 use content::kind::Kind;
 use content::typed::Typed;
@@ -30,7 +30,7 @@ impl<'a> Marking<'a> {
     // The type of the first marked field.
     fn marked_field(&self, first: u32, count: u32) -> Option<u32>
         ensures link { MatchOption result (NoMark self.now.fields.now self.now.marks.now (Some (Kind.Fields first count))) (ToMark self.now.fields.now self.now.marks.now (Some (Kind.Fields first count))) }
-        ensures first { IfSome result (λ j. First self.now.fields.now (Marked self.now.marks.now) (Some (Kind.Fields first count)) j) }
+        ensures first { IfSome result (λ j. First self.now.fields.now (IsMarked self.now.marks.now) (Some (Kind.Fields first count)) j) }
     {
         self.fields
             .get(first as usize..)?
@@ -43,7 +43,7 @@ impl<'a> Marking<'a> {
     // The end of the first link that leads to a marked type.
     fn marked_link(&self, kind: Kind) -> Option<u32>
         ensures link { MatchOption result (NoMark self.now.fields.now self.now.marks.now (Some kind)) (ToMark self.now.fields.now self.now.marks.now (Some kind)) }
-        ensures first { IfSome result (λ j. First self.now.fields.now (Marked self.now.marks.now) (Some kind) j) }
+        ensures first { IfSome result (λ j. First self.now.fields.now (IsMarked self.now.marks.now) (Some kind) j) }
     {
         match kind {
             Kind::Number | Kind::Void | Kind::Function => None,
@@ -95,7 +95,7 @@ pub fn sensitive_types(parts: &Parts) -> [bool; 64]
 // The end of the first link from type t that leads to a type marked in `sensitive`.
 pub fn next_link(parts: &Parts, sensitive: &[bool; 64], t: u32) -> Option<u32>
     ensures link { MatchOption result (NoMark (content parts.now).fields sensitive.now (slice_get (content parts.now).types t)) (ToMark (content parts.now).fields sensitive.now (slice_get (content parts.now).types t)) }
-    ensures first { IfSome result (λ j. First (content parts.now).fields (Marked sensitive.now) (slice_get (content parts.now).types t) j) }
+    ensures first { IfSome result (λ j. First (content parts.now).fields (IsMarked sensitive.now) (slice_get (content parts.now).types t) j) }
 {
     let lists = parts.lists();
     let kind = lists.types.get(t as usize).copied()?;

@@ -7,7 +7,7 @@ use Rattle.std.proofs.lemmas.List.{get_or_default, get_or-set_same, get_or-set_o
 use Rattle.std.proofs.lemmas.Option.{slice_get-get_or, slice_get_past}
 use Rattle.machine.specs.declared.frame.Frame.{Frame}
 use Rattle.machine.specs.Frames.{entered}
-use Rattle.stack.specs.Standing.{standing, topped, Topped}
+use Rattle.stack.specs.inside.Standing.{standing, topped, Topped}
 use Rattle.stack.specs.Stack.{newest, with_newest, entering}
 
 length_standing : (d : ℕ) (fs : List Frame) → length (standing d fs) ≡ d

@@ -4,13 +4,11 @@ ghost use Rattle.std.specs.List.{slice_get};
 ghost use Rattle.std.specs.Option.{option_map};
 ghost use Rattle.machine.specs.Machine.{at_place};
 ghost use Rattle.machine.specs.Frames.{value};
-ghost use Rattle.machine.specs.Values.{word};
 ghost use Rattle.stack.specs.Stack.{entering, newest, with_newest, with_local};
 
 use machine::frame::Frame;
 use machine::held::Held;
 use machine::local_number::LocalNumber;
-use machine::value::Value;
 use std::marker::Model;
 
 // The most frames that may stand.
@@ -28,7 +26,7 @@ pub struct Stack {
 impl Model for Stack {
     ghost use Rattle.std.specs.Prelude.{List};
     ghost use Rattle.machine.specs.declared.frame.Frame.{Frame};
-    ghost use Rattle.stack.specs.Standing.{topped, Topped};
+    ghost use Rattle.stack.specs.inside.Standing.{topped, Topped};
 
     ghost Value = { List Frame };
 
@@ -37,10 +35,10 @@ impl Model for Stack {
     ghost invariant = { λ s. Topped s.depth s.top };
 }
 
-fn set_local_of(frame: &mut Frame, number: LocalNumber, v: Value)
+fn set_local_of(frame: &mut Frame, number: LocalNumber, v: Held)
     ensures { frame.new ≡ with_local number.x v frame.old }
 {
-    frame.locals[number.x as usize] = Held::of(v);
+    frame.locals[number.x as usize] = v;
 }
 
 // In parts, which are short enough that the compiler copies them on the spot.
@@ -118,18 +116,10 @@ impl Stack {
 
     // What its local holds; plain 0 where none stands.
     #[tactic(auto, using(crate::proofs::Tops::newest_topped))]
-    pub fn local(&self, number: LocalNumber) -> Value
+    pub fn local(&self, number: LocalNumber) -> Held
         ensures { result ≡ value (newest self.now) number.x }
     {
-        self.top.held(number).value()
-    }
-
-    // Its word.
-    #[tactic(auto, using(crate::proofs::Tops::newest_topped))]
-    pub fn word(&self, number: LocalNumber) -> u32
-        ensures { result ≡ word (value (newest self.now) number.x) }
-    {
-        self.top.held(number).word()
+        self.top.held(number)
     }
 
     // The newest frame goes.
@@ -157,7 +147,7 @@ impl Stack {
     }
 
     // Its local holds a value; nothing where none stands.
-    pub fn set_local(&mut self, number: LocalNumber, v: Value)
+    pub fn set_local(&mut self, number: LocalNumber, v: Held)
         ensures { self.new ≡ with_newest (with_local number.x v) self.old }
     {
         if self.depth > 0 {

@@ -1,10 +1,15 @@
-use Rattle.std.proofs.Common.{◌≡◌, ℕ, zero, suc, ◌+◌, ◌*◌, ◌<◌, ◌≤◌, List, [], ◌∷◌, length, get_or, take, set, unwrap_or, Some, ap, ◌∙◌, add-one, arith, below_more}
+-- The words that globals take, one after another.
+use Rattle.std.proofs.Common.{◌≡◌, ℕ, zero, suc, ◌+◌, ◌*◌, ◌<◌, ◌≤◌, List, [], ◌∷◌, length, get_or, take, set, unwrap_or, Some, sym, ap, ◌∙◌, add-one, arith, below_more}
 use Rattle.std.specs.List.{slice_get}
-use Rattle.std.proofs.lemmas.List.{take_all}
+use Rattle.std.proofs.lemmas.List.{take_all, length-map}
+use Rattle.std.proofs.Math.ListN.{get_or-map}
 use Rattle.std.proofs.lemmas.Grind.{common_steps}
 use Rattle.std.proofs.lemmas.Option.{gets}
 use Rattle.content.specs.declared.kind.Kind.{Kind}
 use Rattle.content.specs.declared.global.Global.{Global}
+use Rattle.content.specs.Records.{global_from}
+use Rattle.records.specs.Rows.{words_in}
+use Rattle.parts.specs.Content.{globals}
 use Rattle.rules.specs.Types.{size}
 use Rattle.tables.specs.declared.places.Span.{Span}
 use Rattle.tables.specs.Tables.{words, Placed}
@@ -25,6 +30,14 @@ module _ (types : List Kind) where
 
 pub words_all : (types : List Kind) (gs : List Global) (k : ℕ) → length gs ≤ k → words types (take k gs) ≡ words types gs
 words_all types gs k h = ap (words types) (take_all k gs h)
+
+-- the same, of a global that is read where it stands
+pub words_next : (types : List Kind) (rs : List (List (List ℕ))) (k : ℕ) (d : List (List ℕ)) (g : Global) → k < length rs → g ≡ unwrap_or (global_from (words_in (get_or rs k d))) (record { kind = 0; count = 1 }) → words types (take (k + 1) (globals rs)) ≡ words types (take k (globals rs)) + unwrap_or (size (slice_get types g.kind)) 0 * g.count
+words_next types rs k d g l e =
+    let read : List (List ℕ) → Global = λ row. unwrap_or (global_from (words_in row)) (record { kind = 0; count = 1 }) in
+    let here : get_or (globals rs) k (read d) ≡ g = get_or-map read rs k d ∙ sym e in
+    words_more types (globals rs) k (read d) (omega (arith, length-map rs read, l))
+    ∙ ap (λ (x : Global). words types (take k (globals rs)) + unwrap_or (size (slice_get types x.kind)) 0 * x.count) here
 
 nth_set_same : {X : Type 0} (xs : List X) (i : ℕ) (x : X) → i < length xs → slice_get (set xs i x) i ≡ Some x
 nth_set_same xs i x h = grind (arith, common_steps, gets)

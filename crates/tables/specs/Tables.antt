@@ -1,3 +1,4 @@
+-- Where globals lie, and what a step has to know of locals.
 use Rattle.std.specs.Prelude.{◌≡◌, ℕ, ◌+◌, ◌*◌, ◌<◌, ◌≤◌, Bool, false, List, [], ◌∷◌, length, map, replicate, take, Some, None, Option, slice_index_or, unwrap_or}
 use Rattle.std.specs.List.{slice_get, range_with_len}
 use Rattle.std.specs.Option.{option_map_or}
@@ -30,13 +31,9 @@ pub record AllPlaced (c : Content) (p : Places) : Type 0 where
   pub heap_is : p.heap ≡ words c.types c.globals
   pub within : p.heap ≤ c.memory
 
--- whether a type is marked, if there is one
-abbrev pub mark_of : List Bool → Option ℕ → Bool
-mark_of marks t = option_map_or (λ t. slice_index_or marks t false) t false
-
 -- what a step has to know of local x: whether its type is sensitive, and the size of what it points at, if that has one
 abbrev pub local_of : Content → List Bool → Function → ℕ → Local
-local_of c marks f x = record { sensitive = mark_of marks (local_type c.locals f x); size = size (target_kind c f x) }
+local_of c marks f x = record { sensitive = option_map_or (λ t. slice_index_or marks t false) (local_type c.locals f x) false; size = size (target_kind c f x) }
 
 -- a function's eight locals
 abbrev pub layout_of : Content → List Bool → Function → List Local

@@ -1,14 +1,15 @@
 // Where the globals lie.
 ghost use Rattle.std.specs.Prelude.{◌≡◌, ◌*◌, ◌<◌, ◌≤◌, length, MatchOption, unwrap_or};
 ghost use Rattle.std.specs.List.{slice_get};
-ghost use Rattle.parts.specs.Content.{content};
+ghost use Rattle.parts.specs.Content.{shown, kinds, globals};
 ghost use Rattle.rules.specs.Types.{size};
 ghost use Rattle.tables.specs.Tables.{words, Placed, Over, AllPlaced};
 
 use content::global::Global;
-use content::kind::Kind;
-use parts::parts::Parts;
-use rules::lookup::{item_at, size};
+use parts::image::Image;
+use parts::items::{GLOBAL, kind_at};
+use records::rows::read_or;
+use rules::lookup::size;
 
 // The words from `low` up to and without `high`.
 #[derive(Clone, Copy, PartialEq, Eq)]
@@ -17,11 +18,11 @@ pub struct Span {
     pub high: u32,
 }
 
-fn global_words(types: &[Kind], global: Global) -> u64
-    ensures value { result ≡ unwrap_or (size (slice_get types.now global.kind)) 0 * global.count }
+fn global_words(types: &[[[u8; 4]; 3]], global: Global) -> u64
+    ensures value { result ≡ unwrap_or (size (slice_get (kinds types.now) global.kind)) 0 * global.count }
     ensures few { result ≤ 18446744065119617025 }
 {
-    let size = size(item_at(types, global.kind as usize)).unwrap_or(0);
+    let size = size(kind_at(types, global.kind as usize)).unwrap_or(0);
     size as u64 * global.count as u64
 }
 
@@ -35,16 +36,16 @@ pub struct Places {
 }
 
 // Places the globals one after another; nothing where they take more than `limit` words.
-#[tactic(auto, using(crate::proofs::Words::words_more, crate::proofs::Words::words_front, crate::proofs::Words::words_all, crate::proofs::Words::placed_all))]
-fn place_all(types: &[Kind], globals: &[Global], limit: u32) -> Option<Places>
-    requires { length globals.now ≤ 64 }
-    ensures { MatchOption result (limit < words types.now globals.now) (λ p. (p.heap ≡ words types.now globals.now) × (p.heap ≤ limit) × Placed types.now globals.now p.spans) }
+#[tactic(auto, using(crate::proofs::Words::words_next, crate::proofs::Words::words_front, crate::proofs::Words::words_all, crate::proofs::Words::placed_all))]
+fn place_all(types: &[[[u8; 4]; 3]], rows: &[[[u8; 4]; 2]], limit: u32) -> Option<Places>
+    requires { length rows.now ≤ 64 }
+    ensures { MatchOption result (limit < words (kinds types.now) (globals rows.now)) (λ p. (p.heap ≡ words (kinds types.now) (globals rows.now)) × (p.heap ≤ limit) × Placed (kinds types.now) (globals rows.now) p.spans) }
 {
     let mut spans = [Span { low: 0, high: 0 }; 64];
     let mut heap = 0u32;
     // Not a zip with `spans.iter_mut()`: it was tried, and a proof is told nothing of what the loop wrote.
-    for (k, global) in globals.iter().enumerate() {
-        let high = heap as u64 + global_words(types, *global);
+    for (k, row) in rows.iter().enumerate() {
+        let high = heap as u64 + global_words(types, read_or(row, GLOBAL));
         if high > limit as u64 {
             return None;
         }
@@ -58,9 +59,8 @@ fn place_all(types: &[Kind], globals: &[Global], limit: u32) -> Option<Places>
 }
 
 // Where the globals lie; nothing where they take more than the memory has.
-pub fn places_of(parts: &Parts) -> Option<Places>
-    ensures { MatchOption result (Over (content parts.now)) (λ p. AllPlaced (content parts.now) p) }
+pub fn places_of(image: &Image) -> Option<Places>
+    ensures { MatchOption result (Over (shown image.now)) (λ p. AllPlaced (shown image.now) p) }
 {
-    let lists = parts.lists();
-    place_all(lists.types, lists.globals, lists.memory)
+    place_all(image.types, image.globals, image.header.memory())
 }

@@ -3,7 +3,8 @@
 
 ghost use Rattle.std.specs.Prelude.{◌≡◌, ◌+◌, true, false, is_ok, if◌then◌else◌, Some, None};
 ghost use Rattle.stores.specs.Meaning.{Dropped, Put};
-ghost use Rattle.window.specs.Window.{WindowKept, shows, window_entry, window_held, window_lasting, window_taken};
+ghost use Rattle.window.specs.Window.{WindowKept, shows, window_entry, window_taken};
+ghost use Rattle.window.specs.inside.Laws.{window_held, window_lasting};
 
 use stores::store::{NotTaken, Store};
 

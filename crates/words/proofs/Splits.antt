@@ -1,12 +1,13 @@
 -- How a text is cut into lines, and a line into words.
-use Rattle.std.proofs.Common.{◌≡◌, ℕ, suc, ◌+◌, ◌<◌, ◌≤◌, Bool, true, false, not, ◌==◌, List, [], ◌∷◌, length, take, drop, Option, Some, None, nat_lt, sym, refl, ap, ◌∙◌, subst, ⊎_elim, arith}
-use Rattle.std.proofs.lemmas.Bool.{cases_Bool, not_from_false, not_from_true}
+use Rattle.std.proofs.Common.{◌≡◌, ℕ, suc, ◌+◌, ◌-◌, ◌<◌, ◌≤◌, Bool, true, false, not, filter, ◌==◌, List, [], ◌∷◌, length, take, drop, Option, Some, None, nat_lt, sym, refl, ap, ◌∙◌, subst, ⊎_elim, arith}
+use Rattle.std.proofs.lemmas.Bool.{cases_Bool}
 use Rattle.std.proofs.lemmas.Bool.Decides.{nat_tests}
-use Rattle.std.proofs.lemmas.List.{drop_all}
+use Rattle.std.proofs.lemmas.List.{drop-drop, drop_all, take_rest}
 use Rattle.std.proofs.lemmas.List.Sums.{prefix_len-le-length}
-use Rattle.std.specs.List.{position, position_or_len}
+use Rattle.std.specs.List.{after_first, before_first, onto_first, position, position_or_len, slice_split}
 use Rattle.std.specs.Option.{unwrap_or}
-use Rattle.words.specs.Words.{after_word, before, begins_word, blank, first_word, from, lengthened, lines, words}
+use Rattle.std.specs.Str.{bytes_eq}
+use Rattle.words.specs.Words.{lines, words}
 
 -- Where the first byte that passes stands.
 module _ (p : ℕ → Bool) (xs : List ℕ) where
@@ -36,56 +37,41 @@ module _ (n b : ℕ) (bs : List ℕ) where
   drop_one : drop (1 + n) (b ∷ bs) ≡ drop n bs
   drop_one = rw one refl
 
--- What stands before the first `stop`, and from there on.
-module _ (stop : ℕ) where
-  pub cut_front : (xs : List ℕ) → before stop xs ≡ take (position_or_len (λ b. b == stop) xs) xs
-  cut_front [] = refl
-  cut_front (b ∷ bs) = ⊎_elim (λ t. rw t refl) (λ f. rw f (ap (λ l. b ∷ l) (cut_front bs) ∙ sym (take_one _ b bs))) (cases_Bool (b == stop))
+  drop_past : drop (1 + n + 1) (b ∷ bs) ≡ drop (n + 1) bs
+  drop_past = let past : 1 + n + 1 ≡ suc (n + 1) = omega arith in rw past refl
 
-  pub cut_back : (xs : List ℕ) → from stop xs ≡ drop (position_or_len (λ b. b == stop) xs) xs
-  cut_back [] = refl
-  cut_back (b ∷ bs) = ⊎_elim (λ t. rw t refl) (λ f. rw f (cut_back bs ∙ sym (drop_one _ b bs))) (cases_Bool (b == stop))
+abbrev blank : ℕ → Bool
+blank b = b == 32
 
-  pub from_within : (xs : List ℕ) → length (from stop xs) ≤ length xs
-  from_within [] = omega arith
-  from_within (b ∷ bs) = ⊎_elim (λ t. rw t (omega arith)) (λ f. rw f (omega (arith, from_within bs))) (cases_Bool (b == stop))
+abbrev rest : List ℕ → List ℕ
+rest xs = drop (position_or_len blank xs) xs
 
--- A byte in front of a text: a blank, or a letter of a word.
-module _ (b : ℕ) (bs : List ℕ) where
-  words_skip : blank b ≡ true → words (b ∷ bs) ≡ words bs
-  words_skip t = rw t refl
+abbrev filled : List (List ℕ) → List (List ℕ)
+filled = filter (λ w. not (bytes_eq w []))
 
-  first_letter : blank b ≡ false → first_word (b ∷ bs) ≡ b ∷ first_word bs
-  first_letter f = rw f refl
+skip : (b : ℕ) (bs : List ℕ) → blank b ≡ true → words (b ∷ bs) ≡ words bs
+unfolding words
+skip b bs t = rw t refl
 
-  after_letter : blank b ≡ false → after_word (b ∷ bs) ≡ after_word bs
-  after_letter f = rw f refl
-
-  first_none : blank b ≡ true → first_word (b ∷ bs) ≡ []
-  first_none t = rw t refl
-
-  after_none : blank b ≡ true → after_word (b ∷ bs) ≡ b ∷ bs
-  after_none t = rw t refl
-
-  words_last : blank b ≡ false → begins_word bs ≡ false → words (b ∷ bs) ≡ (b ∷ []) ∷ words bs
-  words_last f g = rw (f, g) refl
-
-  words_letter : blank b ≡ false → begins_word bs ≡ true → words (b ∷ bs) ≡ lengthened b (words bs)
-  words_letter f t = rw (f, t) refl
+-- The first part ends at the first blank, and the words of the others are those from there on.
+parted : (xs : List ℕ) → (parts : List (List ℕ)) × (slice_split blank xs ≡ before_first blank xs ∷ parts) × (filled parts ≡ words (rest xs))
+unfolding words
+parted [] = ([], refl, refl)
+parted (b ∷ bs) =
+    ⊎_elim
+    (λ t. (slice_split blank bs, rw t refl, rw t (sym (skip b bs t))))
+    (λ f. let ih = parted bs in (ih.0, rw f (ap (onto_first b) ih.1 ∙ ap (λ w. w ∷ ih.0) (sym (take_one _ b bs))), rw f (ih.2 ∙ ap words (sym (drop_one _ b bs)))))
+    (cases_Bool (blank b))
 
 -- What begins with a letter begins with a word.
-words_first : (b : ℕ) (bs : List ℕ) → blank b ≡ false → words (b ∷ bs) ≡ first_word (b ∷ bs) ∷ words (after_word (b ∷ bs))
-words_first b [] f = rw f refl
-words_first b (c ∷ cs) f = ⊎_elim last (λ g. more g (words_first c cs g)) (cases_Bool (blank c))
-  where
-    parts : first_word (b ∷ c ∷ cs) ∷ words (after_word (b ∷ c ∷ cs)) ≡ (b ∷ first_word (c ∷ cs)) ∷ words (after_word (c ∷ cs))
-    parts = ap (λ w. w ∷ words (after_word (b ∷ c ∷ cs))) (first_letter b (c ∷ cs) f) ∙ ap (λ r. (b ∷ first_word (c ∷ cs)) ∷ words r) (after_letter b (c ∷ cs) f)
-
-    last : blank c ≡ true → words (b ∷ c ∷ cs) ≡ first_word (b ∷ c ∷ cs) ∷ words (after_word (b ∷ c ∷ cs))
-    last t = words_last b (c ∷ cs) f (not_from_true (blank c) t) ∙ sym (parts ∙ ap (λ w. (b ∷ w) ∷ words (after_word (c ∷ cs))) (first_none c cs t) ∙ ap (λ r. (b ∷ []) ∷ words r) (after_none c cs t))
-
-    more : blank c ≡ false → words (c ∷ cs) ≡ first_word (c ∷ cs) ∷ words (after_word (c ∷ cs)) → words (b ∷ c ∷ cs) ≡ first_word (b ∷ c ∷ cs) ∷ words (after_word (b ∷ c ∷ cs))
-    more g ih = words_letter b (c ∷ cs) f (not_from_false (blank c) g) ∙ ap (lengthened b) ih ∙ sym parts
+word_first : (b : ℕ) (bs : List ℕ) → blank b ≡ false → words (b ∷ bs) ≡ before_first blank (b ∷ bs) ∷ words (rest (b ∷ bs))
+unfolding words
+word_first b bs f =
+    let all = parted bs in
+    rw f
+    (ap (λ l. filled (onto_first b l)) all.1
+    ∙ ap (λ ws. (b ∷ before_first blank bs) ∷ ws) (all.2 ∙ ap words (sym (drop_one (position_or_len blank bs) b bs)))
+    ∙ ap (λ w. w ∷ words (drop (1 + position_or_len blank bs) (b ∷ bs))) (sym (take_one (position_or_len blank bs) b bs)))
 
 -- Blanks in front of the first letter hide no word.
 abbrev letter : ℕ → Bool
@@ -95,26 +81,40 @@ at_letter : (b : ℕ) (bs : List ℕ) → blank b ≡ false → position_or_len 
 at_letter b bs f = rw f refl
 
 behind_blanks : (xs : List ℕ) → words xs ≡ words (drop (position_or_len letter xs) xs)
+unfolding words
 behind_blanks [] = refl
 behind_blanks (b ∷ bs) = ⊎_elim (λ t. rw t (behind_blanks bs ∙ ap words (sym (drop_one _ b bs)))) (λ f. ap (λ n. words (drop n (b ∷ bs))) (sym (at_letter b bs f))) (cases_Bool (blank b))
 
-lettered : (xs : List ℕ) → position_or_len letter xs < length xs → begins_word (drop (position_or_len letter xs) xs) ≡ true
-lettered [] lt = absurd (omega arith)
-lettered (b ∷ bs) lt = ⊎_elim (λ t. rw t (ap begins_word (drop_one _ b bs) ∙ lettered bs (let h = rw t at lt in omega arith))) (λ f. ap (λ n. begins_word (drop n (b ∷ bs))) (at_letter b bs f) ∙ ap not f) (cases_Bool (blank b))
-
-word_first : (xs : List ℕ) → begins_word xs ≡ true → words xs ≡ first_word xs ∷ words (after_word xs)
-word_first [] t = absurd (cc)
-word_first (b ∷ bs) t = ⊎_elim (λ u. let n : false ≡ true = rw u at t in absurd (cc)) (λ f. words_first b bs f) (cases_Bool (blank b))
-
 pub no_letter : (xs : List ℕ) → position letter xs ≡ None → words xs ≡ []
+unfolding words
 no_letter xs e = behind_blanks xs ∙ ap words (drop_all (position_or_len letter xs) xs (found_none letter xs e))
 
-pub one_word : (xs : List ℕ) (i : ℕ) → position letter xs ≡ Some i → words xs ≡ first_word (drop i xs) ∷ words (after_word (drop i xs))
-one_word xs i e =
-    let h = found_at letter xs i e in
-    subst (λ n. words xs ≡ first_word (drop n xs) ∷ words (after_word (drop n xs))) h.0 (behind_blanks xs ∙ word_first (drop (position_or_len letter xs) xs) (lettered xs h.1))
+lettered : (xs : List ℕ) → position_or_len letter xs < length xs → let ys = drop (position_or_len letter xs) xs in words ys ≡ before_first blank ys ∷ words (rest ys)
+lettered [] lt = absurd (omega arith)
+lettered (b ∷ bs) lt =
+    ⊎_elim
+    (λ t. rw t (subst (λ ys. words ys ≡ before_first blank ys ∷ words (rest ys)) (sym (drop_one _ b bs)) (lettered bs (let h = rw t at lt in omega arith))))
+    (λ f. subst (λ n. let ys = drop n (b ∷ bs) in words ys ≡ before_first blank ys ∷ words (rest ys)) (sym (at_letter b bs f)) (word_first b bs f))
+    (cases_Bool (blank b))
 
-pub first_line : (xs : List ℕ) → 0 < length xs → lines xs ≡ before 10 xs ∷ lines (drop 1 (from 10 xs))
+pub from_letter : (xs ys : List ℕ) (i : ℕ) → position letter xs ≡ Some i → ys ≡ take (length xs - i) (drop i xs) → words xs ≡ before_first blank ys ∷ words (rest ys)
+from_letter xs ys i e is =
+    let h = found_at letter xs i e in
+    let at : drop (position_or_len letter xs) xs ≡ ys = ap (λ n. drop n xs) h.0 ∙ sym (is ∙ take_rest xs i) in
+    behind_blanks xs ∙ lettered xs h.1 ∙ ap (λ l. before_first blank l ∷ words (rest l)) at
+
+pub one_past : (n : ℕ) (xs : List ℕ) → drop (n + 1) xs ≡ drop 1 (drop n xs)
+one_past n xs = sym (drop-drop 1 n xs)
+
+pub first_line : (xs : List ℕ) → 0 < length xs → lines xs ≡ before_first (λ b. b == 10) xs ∷ lines (after_first (λ b. b == 10) xs)
 first_line [] lt = absurd (omega arith)
 first_line (b ∷ []) lt = ⊎_elim (λ t. rw t refl) (λ f. rw f refl) (cases_Bool (b == 10))
-first_line (b ∷ c ∷ cs) lt = ⊎_elim (λ t. rw t refl) (λ f. rw f (ap (lengthened b) (first_line (c ∷ cs) (omega arith)))) (cases_Bool (b == 10))
+first_line (b ∷ c ∷ cs) lt =
+    let n = position_or_len (λ b. b == 10) (c ∷ cs) in
+    ⊎_elim
+    (λ t. rw t refl)
+    (λ f. rw f
+    (ap (onto_first b) (first_line (c ∷ cs) (omega arith))
+    ∙ ap (λ w. w ∷ lines (drop (n + 1) (c ∷ cs))) (sym (take_one n b (c ∷ cs)))
+    ∙ ap (λ r. take (1 + n) (b ∷ c ∷ cs) ∷ lines r) (sym (drop_past n b (c ∷ cs)))))
+    (cases_Bool (b == 10))

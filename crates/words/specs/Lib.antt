@@ -1,4 +1,3 @@
-pub mod Numbers
-pub mod Reading
+pub mod Forms
 pub mod Reasons
 pub mod Words

@@ -16,6 +16,8 @@ pub enum Fault {
     Large,
     // Low isn't below high, or high is over 65,536.
     Bounds,
+    // A word that isn't bytes, two lower-case hex digits each.
+    Hex,
 }
 
 impl fmt::Display for Fault {
@@ -29,6 +31,7 @@ impl fmt::Display for Fault {
             Fault::Number => "not a number",
             Fault::Large => "number beyond its limit",
             Fault::Bounds => "low must be below high, and high at most 65536",
+            Fault::Hex => "not bytes in hex",
         })
     }
 }

@@ -2,7 +2,7 @@
 ghost use Rattle.std.specs.Prelude.{◌≡◌, ◌-◌, ◌^◌, min};
 ghost use Rattle.std.specs.Char.{is_ascii_digit};
 ghost use Rattle.std.specs.List.{list_all};
-ghost use Rattle.words.specs.Numbers.{number, value};
+ghost use Rattle.words.specs.Words.{decimal, value};
 
 use crate::fault::Fault;
 
@@ -14,7 +14,7 @@ fn all_digits(word: &[u8]) -> bool
 
 // The value of the word's digits, or the largest of 64 bits where it is beyond that.
 fn value(digits: &[u8]) -> u64
-    ensures { result ≡ min (value 0 digits.now) (2 ^ 64 - 1) }
+    ensures { result ≡ min (value digits.now) (2 ^ 64 - 1) }
 {
     digits.iter().fold(0, |n: u64, digit| {
         n.saturating_mul(10)
@@ -23,9 +23,8 @@ fn value(digits: &[u8]) -> u64
 }
 
 // A number that is at most `most`. Not by `parse`, which takes a sign and tells no number too large from no number.
-#[tactic(auto, using(crate::proofs::Digits::each_digit))]
 pub(crate) fn number_of(word: &[u8], most: u32) -> Result<u32, Fault>
-    ensures { result ≡ number most word.now }
+    ensures { result ≡ decimal most word.now }
 {
     if word.is_empty() || !all_digits(word) {
         return Err(Fault::Number);

@@ -1,8 +1,8 @@
 // Texts are cut at a byte: lines at their ends, words at blanks.
 ghost use Rattle.std.specs.Prelude.{◌≡◌, ◌<◌, ◌==◌, ℕ, List, length, drop};
 ghost use Rattle.std.specs.Iterator.{YieldsFirstRef, item_count};
-ghost use Rattle.std.specs.List.{position_or_len};
-ghost use Rattle.words.specs.Words.{before, from, lines};
+ghost use Rattle.std.specs.List.{after_first, before_first, position_or_len};
+ghost use Rattle.words.specs.Words.{lines};
 
 use std::marker::Model;
 
@@ -14,19 +14,19 @@ fn upto(text: &[u8], stop: u8) -> usize
 }
 
 // The text before the first `stop`, and from there on.
-#[tactic(auto, using(crate::proofs::Splits::cut_front, crate::proofs::Splits::cut_back, crate::proofs::Splits::here_within))]
+#[tactic(auto, using(crate::proofs::Splits::here_within))]
 pub(crate) fn cut(text: &[u8], stop: u8) -> (&[u8], &[u8])
-    ensures front { result.0.now ≡ before stop text.now }
-    ensures behind { result.1.now ≡ from stop text.now }
+    ensures front { result.0.now ≡ before_first (λ b. b == stop) text.now }
+    ensures behind { result.1.now ≡ drop (position_or_len (λ b. b == stop) text.now) text.now }
 {
     text.split_at(upto(text, stop))
 }
 
 // The first line, and the text behind its end.
-#[tactic(auto, using(crate::proofs::Splits::from_within))]
-pub fn split_line(text: &[u8]) -> (&[u8], &[u8])
-    ensures line { result.0.now ≡ before 10 text.now }
-    ensures rest { result.1.now ≡ drop 1 (from 10 text.now) }
+#[tactic(auto, using(crate::proofs::Splits::one_past))]
+pub(crate) fn split_line(text: &[u8]) -> (&[u8], &[u8])
+    ensures line { result.0.now ≡ before_first (λ b. b == 10) text.now }
+    ensures rest { result.1.now ≡ after_first (λ b. b == 10) text.now }
     ensures shorter { 0 < length text.now → length result.1.now < length text.now }
 {
     let (line, rest) = cut(text, b'\n');

@@ -1,21 +1,20 @@
 -- What the premises of the worked cases ask for is there.
 use Rattle.std.specs.Prelude.{◌≡◌, ℕ, zero, suc, ◌+◌, ◌*◌, ◌^◌, ◌<◌, true, false, cond, List, [], ◌∷◌, length, replicate, is_some, None, Some, Ok, Option, ◌==◌, nat_lt, slice_index_or, slice_set, unwrap_or, vec_items, refl}
-use Rattle.std.proofs.Common.{sym, ap, ◌∙◌, subst, ⊎_elim, arith, eqb-true, ne_eqb, eq-eqb, mod-lt}
-use Rattle.std.proofs.lemmas.Bool.Decides.{nat_tests}
+use Rattle.std.proofs.Common.{sym, ap, ◌∙◌, subst, ⊎_elim, arith, eqb-true, ne_eqb, eq-eqb}
 use Rattle.std.proofs.lemmas.Bool.{cases_Bool, cond-true, lt-ltb, both_ways, or_right}
 use Rattle.std.proofs.lemmas.List.{get_or-set_other}
 use denote.RawPtr.{null_ptr}
 use Rattle.std.specs.Global.{Vec}
 use Rattle.sensitivity.specs.Sensitive.{here, link, Sensitive}
-use Rattle.stores.specs.Meaning.{Put}
+use Rattle.stores.specs.Meaning.{Dropped, Put}
 use Rattle.stores.specs.Slots.{SlotsKept, counted}
 use Rattle.stores.proofs.Counted.{counted_set}
 use Rattle.array_store.specs.Array.{array_entry, array_taken}
 use Rattle.array_store.specs.declared.ArrayStore.{ArrayStore}
 use Rattle.hash_store.specs.Counting.{held_count}
-use Rattle.hash_store.specs.Holding.{SlotOf, has, is_empty}
-use Rattle.hash_store.specs.Probing.{Sound, home_of, lookup, ring, slot_at}
-use Rattle.hash_store.specs.Hash.{HashDropped, hash_taken}
+use Rattle.hash_store.specs.Holding.{SlotOf, has}
+use Rattle.hash_store.specs.inside.Probing.{Ordered, Sound, home_of, lookup, slot_at}
+use Rattle.hash_store.specs.Hash.{hash_entry, hash_taken}
 use Rattle.hash_store.specs.declared.HashStore.{HashStore}
 use Rattle.hash_store.proofs.Counts.{count_change, count_none}
 use Rattle.window.specs.Window.{shows, window_entry, window_taken}
@@ -28,13 +27,17 @@ use Rattle.machine.specs.Values.{Mark, Code}
 use Rattle.machine.specs.declared.frame.Frame.{Frame}
 use Rattle.machine.specs.declared.value.Value.TheVariants.{Plain, Marked}
 use Rattle.machine.specs.Frames.{entered}
-use Rattle.machine.specs.Machine.{Does, Sight, Step, given, gives, instruction, kept as held, local, make, step_of, take_turn}
+use Rattle.machine.specs.Machine.{Does, Sight, Step, given, gives, instruction, make, turn}
+use Rattle.machine.specs.inside.Parts.{take_turn}
+use Rattle.machine.specs.inside.Parts.{kept as held}
+use Rattle.machine.proofs.Parts.{local}
 use Rattle.machine.specs.Events.{other}
 use Rattle.machine.specs.declared.value.Value.{Value}
 use Rattle.content.specs.declared.instruction.Instruction.{Instruction}
 use Rattle.content.specs.declared.instruction.Instruction.TheVariants as op
 use Rattle.worked.proofs.Said.{module_of}
-use Rattle.worked.specs.Worked.{kinds, both, four, standing, seen, Asked, Eight, FiveAndNine, Holding3, Met}
+use Rattle.worked.proofs.Shown.{kinds, both}
+use Rattle.worked.specs.Worked.{four, standing, seen, Asked, Eight, FiveAndNine, Holding3, Met}
 
 -- a module that says it
 module _ (m : Module) (e : said m ≡ four) where
@@ -71,7 +74,7 @@ module _ (m : Module) (e : said m ≡ four) where
       let s : Sight = seen m f in
       let long : (10 == (said m).memory) ≡ true = ap (λ c. 10 == c.memory) e in
       let here : instruction m f ≡ Some i = subst (λ c. instruction_at c f.function f.place ≡ Some i) (sym e) at in
-      let turns : step_of m s ≡ gives m s f [] other x v = cond-true _ _ _ long ∙ ap (take_turn m s f []) here ∙ does in
+      let turns : turn m s s.state.stack ≡ gives m s f [] other x v = cond-true _ _ _ long ∙ ap (take_turn m s f []) here ∙ does in
       subst (λ l. Does s l (Ok other) (seen m (given m f x v))) (sym turns) (record { answer = refl; state = refl; store = (refl, refl); memory = refl })
 
   stands : (f : Frame) × (g : Frame) × (h : Frame) × Step m (seen m (entered 0)) (Ok other) (seen m f) × Step m (seen m f) (Ok other) (seen m g) × Step m (seen m g) (Ok other) (seen m h) × Step m (seen m h) (Ok other) (seen m standing)
@@ -80,26 +83,14 @@ module _ (m : Module) (e : said m ≡ four) where
 
   holding : Holding3 m standing 0 1 2
   holding =
-      record {
-        three = refl;
-        one = refl;
-        sensitive_x = sensitive_x;
-        sensitive_y = of_local (λ l. l.sensitive ≡ true) 1 (marked 8 ∣ link 8 7 refl (link 7 6 refl (here 6 tt)) ∣₁);
-        size_y = of_local (λ l. unwrap_or l.size 0 ≡ 1) 1 refl;
-        there_x = omega arith;
-        there_y = omega arith;
-        apart = λ p. absurd (omega (arith, p));
-      }
+      (refl, refl, sensitive_x, of_local (λ l. l.sensitive ≡ true) 1 (marked 8 ∣ link 8 7 refl (link 7 6 refl (here 6 tt)) ∣₁), of_local (λ l. unwrap_or l.size 0 ≡ 1) 1 refl, omega arith, omega arith, λ p. absurd (omega (arith, p)))
 
   asked : Asked m (seen m standing) standing 3 4 5
-  asked = record { ten = ap (λ c. c.memory) e; four = ap (λ c. words c.types c.globals) e; unused = refl; two = of_local (λ l. unwrap_or l.size 0 ≡ 2) 3 refl; three = refl; many = refl }
+  asked = (ap (λ c. c.memory) e, ap (λ c. words c.types c.globals) e, refl, of_local (λ l. unwrap_or l.size 0 ≡ 2) 3 refl, refl, refl)
 
 -- a vector of these items
 vec : {X : Type 0} (xs : List X) → length xs < 2 ^ 63 → Vec X
 vec xs lt = record { ptr = null_ptr; len = length xs; cap = length xs; alloc = record { memory = record { seal = tt } }; items = xs; ok = (refl, omega arith); small = lt }
-
-ring_lt : (h d n : ℕ) → h < n → d < n → ring h d n < n
-ring_lt h d n hn dn = grind (arith, nat_tests)
 
 module _ {V : Type 0} where
   -- one slot more holds one address more
@@ -124,17 +115,18 @@ module _ {V : Type 0} where
     two_at (suc zero) a h = let e : 5 ≡ a = eqb-true 5 a h in omega (arith, e)
     two_at (suc (suc i)) a h = absurd (both_ways _ refl h)
 
-    two_full : (i : ℕ) → i < 2 → is_empty (slot_at two i) ≡ false
-    two_full zero lt = refl
-    two_full (suc zero) lt = refl
-    two_full (suc (suc i)) lt = absurd (omega arith)
+    two_ordered : Ordered 2 two
+    unfolding home_of
+    two_ordered zero lt = omega arith
+    two_ordered (suc zero) lt = omega arith
+    two_ordered (suc (suc i)) lt = absurd (omega arith)
 
     two_sound : Sound two
     two_sound =
         record {
           counts = count_more 9 u (Some (5, v) ∷ []) (omega arith) refl ∙ ap (λ n. n + 1) (count_one 5 v (omega arith));
           single = λ t. omega (arith, two_at t.i t.a t.one, two_at t.j t.a t.other);
-          reached = λ p. two_full _ (ring_lt (home_of p.a 2) p.s 2 (mod-lt p.a (omega arith)) (omega (arith, p.before, p.within)));
+          ordered = two_ordered;
         }
 
     one_at : (i a : ℕ) → has (slot_at one i) a ≡ true → (i ≡ 1) × (9 ≡ a)
@@ -142,8 +134,11 @@ module _ {V : Type 0} where
     one_at (suc zero) a h = (refl, eqb-true 9 a h)
     one_at (suc (suc i)) a h = absurd (both_ways _ refl h)
 
-    home_nine : (d : ℕ) → 0 < d → d < 2 → ring (home_of 9 2) d 2 ≡ 1 → ⊥
-    home_nine d pos lt e = let one : d ≡ 1 = omega (arith, pos, lt) in let e = rw one at e in omega (arith, e)
+    one_ordered : Ordered 2 one
+    unfolding home_of
+    one_ordered zero lt = omega arith
+    one_ordered (suc zero) lt = omega arith
+    one_ordered (suc (suc i)) lt = absurd (omega arith)
 
     one_held : held_count (lookup one) ≡ 1
     one_held = count_one 9 u (omega arith)
@@ -153,10 +148,10 @@ module _ {V : Type 0} where
         record {
           counts = one_held;
           single = λ t. (one_at t.i t.a t.one).0 ∙ sym (one_at t.j t.a t.other).0;
-          reached = λ p. let e = one_at _ p.a p.held in absurd (home_nine p.d (omega (arith, p.before)) p.within (subst (λ a. ring (home_of a 2) p.d 2 ≡ 1) (sym e.1) e.0));
+          ordered = one_ordered;
         }
 
-    dropped : HashDropped two one 5
+    dropped : Dropped (hash_entry two) (hash_entry one) (hash_taken two) (hash_taken one) 5
     unfolding counted
     dropped =
         let room : (b : ℕ) → hash_taken one b ≡ true = λ b. or_right (is_some (lookup one b)) (nat_lt (held_count (lookup one)) 2) (lt-ltb (held_count (lookup one)) 2 (omega (arith, one_held))) in
@@ -176,9 +171,9 @@ unfolding vec
 hash xs lt s = record { slots = vec xs lt; sound = s }
 
 hashed : (v u : Mark) → (h : HashStore Mark) × (i : HashStore Mark) × (vec_items h.slots ≡ Some (9, u) ∷ Some (5, v) ∷ []) × (vec_items i.slots ≡ None ∷ Some (9, u) ∷ []) × FiveAndNine h
-    × HashDropped (vec_items h.slots) (vec_items i.slots) 5 × SlotsKept (vec_items h.slots) (vec_items i.slots)
+    × Dropped (hash_entry (vec_items h.slots)) (hash_entry (vec_items i.slots)) (hash_taken (vec_items h.slots)) (hash_taken (vec_items i.slots)) 5 × SlotsKept (vec_items h.slots) (vec_items i.slots)
 unfolding vec hash counted
-hashed v u = (hash (two v u) (omega arith) (two_sound v u), hash (one v u) (omega arith) (one_sound v u), refl, refl, record { two = refl; five = refl; nine = refl }, dropped v u, kept v u)
+hashed v u = (hash (two v u) (omega arith) (two_sound v u), hash (one v u) (omega arith) (one_sound v u), refl, refl, (refl, refl, refl), dropped v u, kept v u)
 
 -- a window of 8 from 100 on
 over : (xs : List (Option Mark)) → length xs < 2 ^ 63 → Window (ArrayStore Mark)
@@ -196,12 +191,12 @@ window v =
       others = λ b ne. ap (λ o. cond (shows (over xs (omega arith)) b) o None) (rw (counted_set xs 107 (Some v)) (get_or-set_other (counted xs) 107 (100 + b) (Some v) None (λ e. ne (omega (arith, e)))));
       still = λ h. absurd (both_ways _ refl h);
     } in
-    (over xs (omega arith), over ys (omega arith), refl, refl, record { base = refl; len = refl; slots = refl }, record { base = refl; len = refl; slots = refl }, put)
+    (over xs (omega arith), over ys (omega arith), refl, refl, (refl, refl, refl), (refl, refl, refl), put)
 
 pub met : Met
 met =
     record {
-      four_to_six = (record { low = 4; high = 6; some = omega arith; inside = omega arith }, record { low = refl; high = refl });
+      four_to_six = (record { low = 4; high = 6; some = omega arith; inside = omega arith }, (refl, refl));
       says = module_of;
       stands = stands;
       holding = holding;

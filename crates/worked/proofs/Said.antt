@@ -13,8 +13,7 @@ use Rattle.content.specs.declared.instruction.Instruction.TheVariants.{Return}
 use Rattle.header.specs.declared.header.Header.{Header}
 use Rattle.parts.specs.declared.parts.Parts.{Parts}
 use Rattle.rules.specs.declared.rule.Rule.TheVariants.{Names, Types}
-use Rattle.rules.specs.Judging.{Unbroken, broken}
-use Rattle.rules.proofs.Keeps.{unbroken_kept}
+use Rattle.rules.specs.Judging.{Kept, broken}
 use Rattle.rules.proofs.Firsts.{at_range}
 use Rattle.sensitivity.specs.Sensitive.{ChainFrom, here, link, Sensitive}
 use Rattle.tables.specs.Tables.{AllPlaced, LaidOut, layout_at}
@@ -24,13 +23,13 @@ use Rattle.writing.specs.Image.{image_of}
 use Rattle.module.specs.Follows.{Follows, Right}
 use Rattle.module.specs.Modules.{said}
 use Rattle.module.specs.declared.module.Module.{Module}
-use Rattle.worked.specs.Worked.{kinds, both, four}
-use Rattle.worked.proofs.Shown.{to_number, unending}
+use Rattle.worked.specs.Worked.{four}
+use Rattle.worked.proofs.Shown.{kinds, both, to_number, unending}
 
-names : Unbroken Names four
+names : Kept Names four
 names = each_list (λ l. broken Names four l ≡ None) refl refl refl refl refl refl
 
-types : Unbroken Types four
+types : Kept Types four
 types = each_list (λ l. broken Types four l ≡ None) refl refl refl refl refl refl
 
 follows : Follows (image_of four) four
@@ -41,8 +40,8 @@ follows =
         headed = record { long = omega arith; version = refl; memory_is = refl; depth_is = refl; counts_are = refl; in_range = refl; in_place = refl };
         listed = record { types_are = refl; fields_are = refl; globals_are = refl; locals_are = refl; functions_are = refl; code_is = refl };
       };
-      named = unbroken_kept Names four names;
-      typed = unbroken_kept Types four types;
+      named = names;
+      typed = types;
       fits = omega arith;
     }
 

@@ -1,3 +1,4 @@
+-- An image whose lists say a content is the content's own image.
 use Rattle.std.proofs.Common.{◌≡◌, ℕ, zero, suc, ◌+◌, ◌*◌, ◌<◌, ◌≤◌, true, List, [], ◌++◌, length, drop, Some, Ok, Option, sym, refl, ap, ◌∙◌, subst, mul-zero, mul-one, mul-add, arith, rules}
 use Rattle.std.specs.List.{flat_map}
 use Rattle.std.proofs.lemmas.List.{append_assoc, append-nil, drop-drop, drop_all, get_or-drop, length-drop}
@@ -8,7 +9,7 @@ use Rattle.records.specs.Records.{records}
 use Rattle.records.proofs.Spelling.{Bytes, spell_from}
 use Rattle.records.proofs.Runs.{led, ok_same}
 use Rattle.content.specs.Records.{kind_from, kind_words, typed_from, typed_words, global_from, global_words, function_from, function_words, instruction_from, instruction_words}
-use Rattle.content.specs.Faithful.{kind_faithful, typed_faithful, global_faithful, function_faithful, instruction_faithful}
+use Rattle.content.specs.inside.Faithful.{kind_faithful, typed_faithful, global_faithful, function_faithful, instruction_faithful}
 use Rattle.header.specs.declared.counts.Counts.{Counts}
 use Rattle.header.specs.Header.{fields_at, globals_at, locals_at, functions_at, code_at, end_at, counts_in, laid, Headed}
 use Rattle.parts.specs.Content.{Content, lengths}

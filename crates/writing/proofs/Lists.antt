@@ -1,3 +1,4 @@
+-- The words of lists, one behind another.
 use Rattle.std.proofs.Common.{◌≡◌, ℕ, ◌+◌, ◌*◌, ◌≤◌, List, ◌++◌, length, sym, refl, ap, ◌∙◌, arith, rules}
 use Rattle.std.specs.List.{flat_map}
 use Rattle.std.proofs.lemmas.List.{length-append, append_assoc}
@@ -10,7 +11,7 @@ use Rattle.header.specs.declared.starts.Starts.{Starts}
 use Rattle.header.specs.Header.{starts_of, end_at}
 use Rattle.parts.specs.Content.{Content, lengths}
 use Rattle.writing.specs.Image.{list_words}
-use Rattle.writing.specs.Putting.{placed}
+use Rattle.writing.specs.inside.Putting.{placed}
 use Rattle.writing.proofs.Placing.{placed_more, length_joined, length_spell}
 
 kind_long : (k : Kind) → length (kind_words k) ≡ 3

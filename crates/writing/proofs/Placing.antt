@@ -1,9 +1,10 @@
+-- Bytes put behind bytes.
 use Rattle.std.proofs.Common.{◌≡◌, ℕ, ◌+◌, ◌-◌, ◌*◌, ◌<◌, ◌≤◌, List, [], ◌∷◌, ◌++◌, length, get_or, take, drop, sym, refl, ap, ◌∙◌, mul-le-mul_left, mul-zero, mul-one, mul-add, mul_assoc, arith}
 use Rattle.std.specs.List.{flat_map}
 use Rattle.std.proofs.lemmas.List.{length-append, length-take-le, append_assoc, take-append-drop, take_at, drop_at, drop-drop, take_all, take_more, flat_map_more}
 use Rattle.std.proofs.lemmas.Grind.{flat_map-append}
 use Rattle.records.specs.Words.{bytes_of, spell}
-use Rattle.writing.specs.Putting.{placed}
+use Rattle.writing.specs.inside.Putting.{placed}
 
 -- bytes put behind bytes
 pub placed_more : (s bs cs : List ℕ) (at m : ℕ) → at + length bs ≤ length s → m ≡ at + length bs → placed (placed s at bs) m cs ≡ placed s at (bs ++ cs)

@@ -1,10 +1,11 @@
+-- The image that is written is long enough for all, and each part lies in its place.
 use Rattle.std.proofs.Common.{◌≡◌, ℕ, ◌+◌, ◌≤◌, List, ◌++◌, length, drop, refl, ◌∙◌, arith}
 use Rattle.std.proofs.lemmas.List.{length-append}
 use Rattle.records.specs.Words.{spell}
 use Rattle.header.specs.Header.{end_at}
 use Rattle.parts.specs.Content.{Content, lengths}
 use Rattle.writing.specs.Image.{image_of, header_words, list_words}
-use Rattle.writing.specs.Putting.{placed}
+use Rattle.writing.specs.inside.Putting.{placed}
 use Rattle.writing.proofs.Placing.{placed_first, length_spell}
 use Rattle.writing.proofs.Lists.{words_more, length_lists}
 

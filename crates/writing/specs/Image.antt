@@ -1,3 +1,4 @@
+-- The image of what a module says, and how it is written.
 use Rattle.std.specs.Prelude.{◌≡◌, ℕ, ◌<◌, ◌≤◌, List, [], ◌∷◌, ◌++◌, length, drop, Ok, Err, Result}
 use Rattle.std.specs.List.{flat_map}
 use Rattle.records.specs.Words.{spell}
@@ -9,24 +10,14 @@ use Rattle.parts.specs.Content.{Content, lengths}
 -- version, memory size, depth, then start and count of each list
 abbrev pub header_words : ℕ → ℕ → Counts → List ℕ
 header_words m d n =
-    1 ∷ m ∷ d
-    ∷ 60 ∷ n.types
-    ∷ fields_at n ∷ n.fields
-    ∷ globals_at n ∷ n.globals
-    ∷ locals_at n ∷ n.locals
-    ∷ functions_at n ∷ n.functions
-    ∷ code_at n ∷ n.code
-    ∷ []
+    1 ∷ m ∷ d ∷ 60 ∷ n.types ∷ fields_at n ∷ n.fields ∷ globals_at n ∷ n.globals
+    ∷ locals_at n ∷ n.locals ∷ functions_at n ∷ n.functions ∷ code_at n ∷ n.code ∷ []
 
 -- the words of the six lists
 abbrev pub list_words : Content → List ℕ
 list_words c =
-    flat_map kind_words c.types
-    ++ (flat_map typed_words c.fields
-    ++ (flat_map global_words c.globals
-    ++ (flat_map typed_words c.locals
-    ++ (flat_map function_words c.functions
-    ++ flat_map instruction_words c.code))))
+    flat_map kind_words c.types ++ (flat_map typed_words c.fields ++ (flat_map global_words c.globals
+    ++ (flat_map typed_words c.locals ++ (flat_map function_words c.functions ++ flat_map instruction_words c.code))))
 
 -- the image that says c
 unfoldable pub image_of : Content → List ℕ

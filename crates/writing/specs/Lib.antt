@@ -1,2 +1,2 @@
 pub mod Image
-pub mod Putting
+pub mod inside

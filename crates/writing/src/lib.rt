@@ -6,7 +6,7 @@ ghost use Rattle.records.specs.Words.{spell};
 ghost use Rattle.header.specs.Header.{starts_of, end_at};
 ghost use Rattle.parts.specs.Content.{content, lengths, viewed};
 ghost use Rattle.writing.specs.Image.{image_of, Written, header_words, list_words};
-ghost use Rattle.writing.specs.Putting.{placed};
+ghost use Rattle.writing.specs.inside.Putting.{placed};
 
 use crate::putting::{put_list, put_words};
 use header::header::Header;

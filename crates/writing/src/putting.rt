@@ -2,11 +2,11 @@
 ghost use Rattle.std.specs.Prelude.{◌≡◌, ◌+◌, ◌*◌, ◌≤◌, length};
 ghost use Rattle.std.specs.List.{flat_map};
 ghost use Rattle.records.specs.Words.{bytes_of, spell};
-ghost use Rattle.writing.specs.Putting.{placed};
+ghost use Rattle.writing.specs.inside.Putting.{placed};
 
 use records::record::Record;
 
-#[tactic(auto, using(crate::proofs::Placing::word_placed), unfolding(crate::specs::Putting::placed))]
+#[tactic(auto, using(crate::proofs::Placing::word_placed), unfolding(crate::specs::inside::Putting::placed))]
 fn put_word(out: &mut [u8], at: usize, word: u32)
     requires { at + 4 ≤ length out.old }
     ensures { out.new ≡ placed out.old at (bytes_of word) }

@@ -1,4 +1,4 @@
-use Rattle.sensitivity.specs.Marks.{Round}
+use Rattle.sensitivity.specs.inside.Rounds.{Round}
 use Rattle.sensitivity.proofs.round.Given as goal
 
 abbrev pub invariant-loop-i : goal.invariant-loop-i

@@ -3,7 +3,7 @@ use Rattle.records.specs.Words.{spell}
 use Rattle.header.specs.declared.header.Header.{Header}
 use Rattle.parts.specs.Content.{content, lengths}
 use Rattle.writing.specs.Image.{header_words, list_words}
-use Rattle.writing.specs.Putting.{placed}
+use Rattle.writing.specs.inside.Putting.{placed}
 use Rattle.writing.proofs.Whole.{image_placed}
 use Rattle.writing.proofs.put_image.Goals as goal
 

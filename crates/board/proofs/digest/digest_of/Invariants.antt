@@ -1,6 +1,6 @@
 use Rattle.std.proofs.Common.{◌≡◌}
 use Rattle.machine.specs.Values.{wrapped}
-use Rattle.board.specs.Memories.{weighted}
+use Rattle.board.specs.Runs.{weighted}
 use Rattle.board.proofs.digest.digest_of.Given as goal
 
 abbrev pub invariant-loop-i : goal.invariant-loop-i

@@ -1,5 +1,5 @@
 use Rattle.module.specs.Modules.{said}
-use Rattle.enterable.specs.Rounds.{ClosedUpto, Grown}
+use Rattle.enterable.specs.inside.Rounds.{ClosedUpto, Grown}
 use Rattle.enterable.proofs.finding.add_from.Given as goal
 
 abbrev pub invariant-loop-place : goal.invariant-loop-place

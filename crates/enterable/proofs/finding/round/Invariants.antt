@@ -1,5 +1,5 @@
 use Rattle.module.specs.Modules.{said}
-use Rattle.enterable.specs.Rounds.{ClosedBelow, Grown}
+use Rattle.enterable.specs.inside.Rounds.{ClosedBelow, Grown}
 use Rattle.enterable.proofs.finding.round.Given as goal
 
 abbrev pub invariant-loop-f : goal.invariant-loop-f

@@ -17,10 +17,10 @@ returns g c =
     let is = c.begin-run.ensures in
     let see = seen g.S.Store.entry g.S.Store.taken in
     let memory = c.args.memory.now in
-    record {
-      first = c.begin-run.result;
-      left = c.go_on.new.run;
-      begun = record { state = is.state memory; clear = is.cleared.gone };
-      kept = is.kept;
-      ran = subst (λ (m : Module). Ran m (see c.begin-run.result memory) (c.args.slices * length c.args.events.now) c.go_on.result (see c.go_on.new.run c.go_on.new.memory)) is.«module» c.go_on.ensures;
-    }
+    let first = c.begin-run.result in (
+      first,
+      c.go_on.new.run,
+      record { state = is.state memory; clear = is.cleared.gone },
+      is.kept,
+      subst (λ (m : Module). Ran m (see first memory) (c.args.slices * length c.args.events.now) c.go_on.result (see c.go_on.new.run c.go_on.new.memory)) is.«module» c.go_on.ensures,
+    )

@@ -2,7 +2,7 @@ use Rattle.std.proofs.Common.{◌≡◌, ℕ, zero, suc, ◌+◌, ◌<◌, ◌�
 use Rattle.std.specs.Array.{IsFromFnResultFrom}
 use Rattle.std.proofs.lemmas.Bool.{cases_eq}
 use Rattle.std.proofs.lemmas.Option.{slice_get-get_or}
-use Rattle.parts.specs.Content.{viewed}
+use Rattle.parts.specs.Content.{shown}
 use Rattle.tables.specs.declared.layout.Local.{Local}
 use Rattle.tables.specs.Tables.{layout_at}
 use Rattle.tables.proofs.layout.table_of.Goals as goal
@@ -24,6 +24,6 @@ each_made {F} {B} {g} {f} P d ys (suc n) i (q, y, at, called, rest) h k a b =
 pub returns : goal.returns
 returns c = λ k l.
     let none : List Local = [] in
-    let lay : ℕ → List Local = layout_at (viewed c.args.lists.now) c.args.marks.now in
+    let lay : ℕ → List Local = layout_at (shown c.args.image.now) c.args.marks.now in
     slice_get-get_or c.from_fn.result k none (omega (arith, c.from_fn.ensures.items.long))
     ∙ ap Some (each_made (λ j y. y ≡ lay j) none c.from_fn.result 64 0 c.from_fn.ensures.items.each (λ i y q p. (both q _ _ p.met.0.0 p.met.0.1, p.met.1)) k (omega arith) l)

@@ -2,7 +2,7 @@ use Rattle.std.proofs.Common.{◌+◌, ◌*◌, ◌≤◌, length, sym, ap, ◌�
 use Rattle.std.specs.List.{flat_map}
 use Rattle.std.proofs.lemmas.List.{take_all}
 use Rattle.records.specs.Words.{spell}
-use Rattle.writing.specs.Putting.{placed}
+use Rattle.writing.specs.inside.Putting.{placed}
 use Rattle.writing.proofs.Placing.{bytes, placed_none, piece_more, spelt_joined, length_spell, place_first, place_next, place_last}
 use Rattle.writing.proofs.putting.put_list.Goals as goal
 

@@ -1,6 +1,6 @@
 use Rattle.std.proofs.Common.{◌≡◌, ◌+◌, ◌*◌, take}
 use Rattle.std.specs.List.{flat_map}
-use Rattle.writing.specs.Putting.{placed}
+use Rattle.writing.specs.inside.Putting.{placed}
 use Rattle.writing.proofs.Placing.{bytes}
 use Rattle.writing.proofs.putting.put_list.Given as goal
 

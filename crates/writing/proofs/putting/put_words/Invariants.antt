@@ -1,6 +1,6 @@
 use Rattle.std.proofs.Common.{◌≡◌, take}
 use Rattle.records.specs.Words.{spell}
-use Rattle.writing.specs.Putting.{placed}
+use Rattle.writing.specs.inside.Putting.{placed}
 use Rattle.writing.proofs.putting.put_words.Given as goal
 
 abbrev pub invariant-loop-k : goal.invariant-loop-k

@@ -1,6 +1,6 @@
 use Rattle.std.proofs.Common.{take, flat_map}
 use Rattle.std.specs.Fmt.{HasWritten, IsPlainFormatter}
-use Rattle.board.specs.Listings.{local_word}
+use Rattle.board.specs.Shown.{local_word}
 use Rattle.board.proofs.listed.LocalsDisplay.fmt.Given as goal
 
 abbrev pub invariant-loop-value : goal.invariant-loop-value

@@ -1,9 +1,9 @@
 use Rattle.std.proofs.Common.{◌≡◌, drop}
-use Rattle.parts.specs.Content.{viewed}
+use Rattle.parts.specs.Content.{shown}
 use Rattle.rules.specs.Judging.{broken_by_any}
 use Rattle.rules.proofs.ruled.Ruling.judge_functions.Given as goal
 
-abbrev pub invariant-loop-f : goal.invariant-loop-f
-invariant-loop-f l =
-    let c = viewed l.self.lists.now in
-    broken_by_any l.self.rule c c.functions ≡ broken_by_any l.self.rule c (drop l.f-index c.functions)
+abbrev pub invariant-loop-row : goal.invariant-loop-row
+invariant-loop-row l =
+    let c = shown l.self.image.now in
+    broken_by_any l.self.rule c c.functions ≡ broken_by_any l.self.rule c (drop l.row-index c.functions)

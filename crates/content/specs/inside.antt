@@ -1,0 +1,2 @@
+-- What only the proofs rest on.
+pub mod Faithful

@@ -1,0 +1,3 @@
+-- What only the proofs rest on.
+pub mod Probing
+pub mod Laws
