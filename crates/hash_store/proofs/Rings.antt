@@ -1,6 +1,6 @@
 -- Places in a ring.
-use Rattle.std.proofs.Common.{◌≡◌, ℕ, ◌+◌, ◌*◌, ◌%◌, ◌^◌, ◌<◌, ◌≤◌, cond, nat_lt, mod-lt, arith}
-use Rattle.std.proofs.Math.Nat.{div-lt_iff_lt-mul, mul_comm, mul-lt-mul_of_pos_right}
+use Rattle.std.proofs.Common.{◌≡◌, ℕ, ◌+◌, ◌<◌, ◌≤◌, cond, nat_lt, mod-lt, sym, arith}
+use Rattle.std.proofs.Math.Nat.{mod-eq_of_lt}
 use Rattle.std.proofs.lemmas.Bool.Decides.{nat_tests}
 use Rattle.hash_store.specs.inside.Probing.{home_of, ring, away}
 
@@ -57,4 +57,8 @@ away_less p e n pn en ne = grind (arith, nat_tests)
 
 pub home_inside : (a n : ℕ) → 0 < n → home_of a n < n
 unfolding home_of
-home_inside a n pos = (div-lt_iff_lt-mul {k = 2 ^ 32} {x = a * 2654435769 % 2 ^ 32 * n} {y = n} (omega arith)).1 (rw (mul_comm n (2 ^ 32)) (mul-lt-mul_of_pos_right {m = a * 2654435769 % 2 ^ 32} {n = 2 ^ 32} {k = n} (mod-lt (a * 2654435769) (omega arith)) pos))
+home_inside a n pos = mod-lt a pos
+
+pub home_near : (a n : ℕ) → a < n → a ≡ home_of a n
+unfolding home_of
+home_near a n lt = sym (mod-eq_of_lt lt)

@@ -4,9 +4,6 @@ ghost use Rattle.hash_store.specs.inside.Probing.{away, home_of, reach, ring};
 
 use crate::slot::Slot;
 
-// Spreads addresses that are near each other: 2^32 by the golden ratio.
-const SPREAD: u32 = 2_654_435_769;
-
 // Places in a ring, of which there is one at least.
 #[derive(Clone, Copy)]
 pub(crate) struct Ring {
@@ -16,13 +13,13 @@ pub(crate) struct Ring {
 }
 
 impl Ring {
-    // Where an address is first looked for. By a product and no remainder, since a division takes longer than a probe.
-    #[tactic(auto, using(crate::proofs::Rings::home_inside), unfolding(crate::specs::inside::Probing::home_of))]
+    // Where an address is first looked for: its remainder, so that neighbours have neighbouring homes. A division takes longer than a probe, and most addresses need none.
+    #[tactic(auto, using(crate::proofs::Rings::home_inside, crate::proofs::Rings::home_near), unfolding(crate::specs::inside::Probing::home_of))]
     pub(crate) fn home(self, a: u32) -> usize
         ensures { (result ≡ home_of a self.n) × (result < self.n) }
     {
-        let spread = a.wrapping_mul(SPREAD);
-        (spread as u64 * self.n as u64 / 4_294_967_296) as usize
+        let n = self.n as u32;
+        if a < n { a as usize } else { (a % n) as usize }
     }
 
     // The place that counts as many as end: the first place is behind the last.

@@ -1,12 +1,12 @@
 -- Slots in a ring, where each entry stands at its home or behind it, and a cluster's entries in the order of their homes.
-use Rattle.std.specs.Prelude.{◌≡◌, ℕ, ◌+◌, ◌-◌, ◌*◌, ◌/◌, ◌%◌, ◌^◌, ◌<◌, ◌≤◌, true, false, cond, ◌==◌, List, [], ◌∷◌, length, Some, None, Option, nat_lt, slice_index_or, slice_set}
+use Rattle.std.specs.Prelude.{◌≡◌, ℕ, ◌+◌, ◌-◌, ◌%◌, ◌<◌, ◌≤◌, true, false, cond, ◌==◌, List, [], ◌∷◌, length, Some, None, Option, nat_lt, slice_index_or, slice_set}
 use Rattle.hash_store.specs.Counting.{held_count}
 pub use Rattle.hash_store.specs.Hash.{lookup, room}
 use Rattle.hash_store.specs.Holding.{SlotOf, has, is_empty}
 
--- Where an address is first looked for, in n slots: its product with an odd number spreads addresses that are near each other, and is scaled from 2^32 to n.
+-- where an address is first looked for, in n slots: neighbours have neighbouring homes
 unfoldable pub home_of : ℕ → ℕ → ℕ
-home_of a n = a * 2654435769 % 2 ^ 32 * n / 2 ^ 32
+home_of a n = a % n
 
 -- d places on from h in a ring of n
 abbrev pub ring : ℕ → ℕ → ℕ → ℕ
