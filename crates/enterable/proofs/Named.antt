@@ -9,8 +9,6 @@ use Rattle.content.specs.declared.function.Function.{Function}
 use Rattle.content.specs.declared.instruction.Instruction.{Instruction}
 use Rattle.content.specs.declared.instruction.Instruction.TheVariants as op
 use Rattle.rules.specs.inside.Rows.{named}
-use Rattle.rules.specs.declared.rule.Rule.TheVariants.{Names}
-use Rattle.rules.proofs.Keeps.{each}
 use Rattle.module.specs.Modules.{said, in_function, instruction_at}
 use Rattle.module.specs.declared.module.Module.{Module}
 use Rattle.enterable.specs.Enterable.{Enterable, first, called, taken}
@@ -29,7 +27,7 @@ owned_in : (m : Module) (f i : ℕ) (o : Instruction) (h : Option Function) → 
 owned_in m f i o None is e = absurd (cc)
 owned_in m f i o (Some g) is e =
     let p = cond_option (nat_lt i g.count) (slice_get (said m).code (g.first + i)) o e in
-    record { owner = g; names = ∥∥₁_rec (Bool-set _ true) (λ y. (each Names (said m) y.named).code f g i o is (ltb-true i g.count p.0) p.1) m.follows }
+    record { owner = g; names = ∥∥₁_rec (Bool-set _ true) (λ y. y.named.code f g i o is (ltb-true i g.count p.0) p.1) m.follows }
 
 owned : (m : Module) (f i : ℕ) (o : Instruction) → instruction_at (said m) f i ≡ Some o → Owned m o
 owned m f i o e = owned_in m f i o (slice_get (said m).functions f) refl e

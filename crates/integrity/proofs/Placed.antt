@@ -9,8 +9,6 @@ use Rattle.content.specs.declared.function.Function.{Function}
 use Rattle.content.specs.declared.instruction.Instruction.{Instruction}
 use Rattle.content.specs.declared.instruction.Instruction.TheVariants as op
 use Rattle.rules.specs.Keeping.{ends}
-use Rattle.rules.specs.declared.rule.Rule.TheVariants.{Names}
-use Rattle.rules.proofs.Keeps.{each}
 use Rattle.module.specs.Modules.{said, in_function}
 use Rattle.module.specs.declared.module.Module.{Module}
 use Rattle.machine.specs.declared.frame.Frame.{Frame}
@@ -33,7 +31,7 @@ use Rattle.integrity.proofs.Rules.{Ruled, ruled}
 
 module _ (m : Module) where
   code_fits : (k : ℕ) (g : Function) → slice_get (said m).functions k ≡ Some g → g.first + g.count ≤ length (said m).code
-  code_fits k g is = ∥∥₁_rec le_prop (λ y. leb-true _ _ (and_parts _ _ ((each Names (said m) y.named).functions k g is)).0) m.follows
+  code_fits k g is = ∥∥₁_rec le_prop (λ y. leb-true _ _ (and_parts _ _ (y.named.functions k g is)).0) m.follows
 
   abbrev Has : Frame → Type 0
   Has f = (i : Instruction) × (instruction m f ≡ Some i)

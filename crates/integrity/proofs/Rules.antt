@@ -10,8 +10,6 @@ use Rattle.content.specs.declared.function.Function.{Function}
 use Rattle.content.specs.declared.instruction.Instruction.{Instruction}
 use Rattle.rules.specs.Keeping.{ends}
 use Rattle.rules.specs.inside.Rows.{named, typed}
-use Rattle.rules.specs.declared.rule.Rule.TheVariants.{Names, Types}
-use Rattle.rules.proofs.Keeps.{each}
 use Rattle.tables.specs.Tables.{layout_of, local_of, plain}
 use Rattle.module.specs.Modules.{said, in_function}
 use Rattle.module.specs.declared.module.Module.{Module}
@@ -40,8 +38,8 @@ ruled_in m f i None is e = absurd (cc)
 ruled_in m f i (Some g) is e =
     let p = cond_option (nat_lt f.place g.count) (slice_get (said m).code (g.first + f.place)) i e in
     let within : f.place < g.count = ltb-true f.place g.count p.0 in
-    let names : named (said m) g i ≡ true = ∥∥₁_rec (Bool-set _ true) (λ y. (each Names (said m) y.named).code f.function g f.place i is within p.1) m.follows in
-    let kept : (typed (said m) g i && cond (f.place + 1 == g.count) (ends i) true) ≡ true = ∥∥₁_rec (Bool-set _ true) (λ y. (each Types (said m) y.typed).code f.function g f.place i is within p.1) m.follows in
+    let names : named (said m) g i ≡ true = ∥∥₁_rec (Bool-set _ true) (λ y. y.named.code f.function g f.place i is within p.1) m.follows in
+    let kept : (typed (said m) g i && cond (f.place + 1 == g.count) (ends i) true) ≡ true = ∥∥₁_rec (Bool-set _ true) (λ y. y.typed.code f.function g f.place i is within p.1) m.follows in
     let t = and_parts (typed (said m) g i) (cond (f.place + 1 == g.count) (ends i) true) kept in
     record {
       owner = g;

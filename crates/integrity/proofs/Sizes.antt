@@ -12,8 +12,6 @@ use Rattle.content.specs.declared.instruction.Instruction.TheVariants as op
 use Rattle.rules.specs.Types.{size, kind_at}
 use Rattle.rules.specs.inside.Rows.{sized}
 use Rattle.rules.specs.Keeping.{target}
-use Rattle.rules.specs.declared.rule.Rule.TheVariants.{Types}
-use Rattle.rules.proofs.Keeps.{each}
 use Rattle.tables.specs.Tables.{words}
 use Rattle.tables.proofs.Words.{words_more, words_front}
 use Rattle.module.specs.Modules.{said}
@@ -42,7 +40,7 @@ module _ (m : Module) where
   sized_some (Some n) s = sized_kind (slice_get (said m).types n) (kinds_some m n) s
 
   sized_global : (k : ℕ) (g : Global) → slice_get (said m).globals k ≡ Some g → sized (kind_at (said m).types (Some g.kind)) ≡ true
-  sized_global k g e = ∥∥₁_rec (Bool-set _ _) (λ y. (each Types (said m) y.typed).globals k g e) m.follows
+  sized_global k g e = ∥∥₁_rec (Bool-set _ _) (λ y. y.typed.globals k g e) m.follows
 
   -- global k takes a word at least
   pub global_some : (k : ℕ) → k < length (said m).globals → start_of (said m).types (said m).globals k < start_of (said m).types (said m).globals (k + 1)

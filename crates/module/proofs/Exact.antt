@@ -20,6 +20,7 @@ use Rattle.rules.specs.declared.rule.Rule.{Rule}
 use Rattle.rules.specs.declared.rule.Rule.TheVariants.{Names, Types}
 use Rattle.rules.specs.declared.fault.RuleFault.TheVariants.{Meaningless, Unnamed, Mistyped}
 use Rattle.rules.specs.Judging.{Kept, FirstBroken}
+use Rattle.rules.proofs.Keeps.{kept_unbroken}
 use Rattle.tables.specs.Tables.{Over}
 use Rattle.module.specs.declared.fault.ModuleFault.{ModuleFault}
 use Rattle.module.specs.declared.fault.ModuleFault.TheVariants as fault
@@ -60,7 +61,7 @@ differ : {b : Bool} → b ≡ false → b ≡ true → ⊥
 differ {b} p q = true≢false (sym q ∙ p)
 
 unbroken : (r : Rule) (c : Content) (f : RecordFault) → Kept r c → FirstBroken r c f → ⊥
-unbroken r c f k b = unlike f.«record» _ b.0 (k f.list)
+unbroken r c f k b = unlike f.«record» _ b.0 (kept_unbroken r c k f.list)
 
 module _ (s : List ℕ) (c : Content) (y : Follows s c) where
   same : (d : Content) → d.memory ≡ word_at s 4 → d.depth ≡ word_at s 8 → Listed s (counts_in s) d → d ≡ c

@@ -4,6 +4,7 @@ use Rattle.records.specs.Words.{spell}
 use Rattle.records.proofs.Lists.{each_list}
 use Rattle.rules.specs.declared.rule.Rule.TheVariants.{Names, Types}
 use Rattle.rules.specs.Judging.{Kept, broken}
+use Rattle.rules.proofs.Keeps.{unbroken_kept}
 use Rattle.parts.specs.Content.{Content}
 use Rattle.module.specs.Follows.{Follows}
 use Rattle.module.specs.declared.module.Module.{Module}
@@ -21,10 +22,10 @@ fresh_bytes =
     ∷ [])
 
 names : Kept Names fresh
-names = each_list (λ l. broken Names fresh l ≡ None) refl refl refl refl refl refl
+names = unbroken_kept Names fresh (each_list (λ l. broken Names fresh l ≡ None) refl refl refl refl refl refl)
 
 types : Kept Types fresh
-types = each_list (λ l. broken Types fresh l ≡ None) refl refl refl refl refl refl
+types = unbroken_kept Types fresh (each_list (λ l. broken Types fresh l ≡ None) refl refl refl refl refl refl)
 
 -- the module before any reading has an image that follows the rules
 fresh_follows : Follows fresh_bytes fresh

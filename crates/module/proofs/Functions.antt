@@ -8,8 +8,6 @@ use Rattle.std.proofs.lemmas.Option.{slice_get_past}
 use Rattle.content.specs.declared.function.Function.{Function}
 use Rattle.content.specs.declared.instruction.Instruction.{Instruction}
 use Rattle.parts.specs.Content.{Content}
-use Rattle.rules.specs.declared.rule.Rule.TheVariants.{Names}
-use Rattle.rules.proofs.Keeps.{each}
 use Rattle.module.specs.declared.module.Module.{Module}
 use Rattle.module.specs.Modules.{said, instruction_at}
 
@@ -50,6 +48,6 @@ pub code_fits : (m : Module) (d : Content) (k : ℕ) (f : Function) (code : List
 code_fits m d k f code same e is =
     let there : slice_get (said m).functions k ≡ Some f = cc (ap (λ (x : Content). slice_get x.functions k) same, e) in
     let le : IsProp (f.first + f.count ≤ length (said m).code) = Prim.hlevel props in
-    let fits : f.first + f.count ≤ length (said m).code = ∥∥₁_rec le (λ y. leb-true _ _ (and_parts _ _ ((each Names (said m) y.named).functions k f there)).0) m.follows in
+    let fits : f.first + f.count ≤ length (said m).code = ∥∥₁_rec le (λ y. leb-true _ _ (and_parts _ _ (y.named.functions k f there)).0) m.follows in
     let long : length (said m).code ≡ length code = sym (ap (λ (x : Content). length x.code) same) ∙ ap (λ (l : List Instruction). length l) is in
     omega (arith, fits, long)

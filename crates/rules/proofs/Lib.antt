@@ -1,3 +1,4 @@
 pub mod Firsts
 pub mod Keeps
+mod Own
 mod Turns

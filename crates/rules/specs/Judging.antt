@@ -1,4 +1,4 @@
--- Which record breaks a rule first.
+-- What it is that records keep a rule, and which breaks it first.
 use Rattle.std.specs.Prelude.{◌≡◌, ℕ, ◌+◌, ◌<◌, Bool, true, not, List, [], ◌∷◌, Some, None, Option, position}
 use Rattle.std.specs.List.{slice_get, range_with_len}
 use Rattle.std.specs.Option.{option_map, option_map_or, option_or}
@@ -6,13 +6,26 @@ use Rattle.records.specs.Lists.{list_number}
 use Rattle.records.specs.declared.list.ListOf.{ListOf}
 use Rattle.records.specs.declared.list.ListOf.TheVariants as list
 use Rattle.records.specs.declared.record.RecordFault.{RecordFault}
+use Rattle.content.specs.declared.kind.Kind.{Kind}
+use Rattle.content.specs.declared.typed.Typed.{Typed}
+use Rattle.content.specs.declared.global.Global.{Global}
 use Rattle.content.specs.declared.function.Function.{Function}
+use Rattle.content.specs.declared.instruction.Instruction.{Instruction}
 use Rattle.parts.specs.Content.{Content}
 use Rattle.rules.specs.declared.rule.Rule.{Rule}
 use Rattle.rules.specs.declared.rule.Rule.TheVariants.{Names, Types}
 use Rattle.rules.specs.declared.fault.RuleFault.{RuleFault}
 use Rattle.rules.specs.declared.fault.RuleFault.TheVariants.{Meaningless, Unnamed, Mistyped}
 use Rattle.rules.specs.Keeping.{kind_keeps, typed_keeps, global_keeps, function_keeps, instruction_keeps}
+
+-- every record keeps the rule, and so does each instruction in every function that has it
+pub record Kept (r : Rule) (c : Content) : Type 0 where
+  pub types : (k : ℕ) (t : Kind) → slice_get c.types k ≡ Some t → kind_keeps r c t ≡ true
+  pub fields : (k : ℕ) (t : Typed) → slice_get c.fields k ≡ Some t → typed_keeps r c t ≡ true
+  pub globals : (k : ℕ) (g : Global) → slice_get c.globals k ≡ Some g → global_keeps r c g ≡ true
+  pub locals : (k : ℕ) (t : Typed) → slice_get c.locals k ≡ Some t → typed_keeps r c t ≡ true
+  pub functions : (k : ℕ) (f : Function) → slice_get c.functions k ≡ Some f → function_keeps r c f ≡ true
+  pub code : (k : ℕ) (f : Function) (i : ℕ) (o : Instruction) → slice_get c.functions k ≡ Some f → i < f.count → slice_get c.code (f.first + i) ≡ Some o → instruction_keeps r c f i o ≡ true
 
 -- the first item at which the test fails, by its place
 abbrev pub first_in : {R : Type 0} → (R → Bool) → List R → Option ℕ
@@ -45,8 +58,8 @@ abbrev pub FirstBroken : Rule → Content → RecordFault → Type 0
 FirstBroken r c f = (broken r c f.list ≡ Some f.record) × ((l : ListOf) → list_number l < list_number f.list → broken r c l ≡ None)
 
 -- no record breaks the rule
-abbrev pub Kept : Rule → Content → Type 0
-Kept r c = (l : ListOf) → broken r c l ≡ None
+abbrev pub Unbroken : Rule → Content → Type 0
+Unbroken r c = (l : ListOf) → broken r c l ≡ None
 
 -- which rule the content breaks first, and where
 abbrev pub Breaks : Content → RuleFault → Type 0

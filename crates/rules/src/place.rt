@@ -1,5 +1,5 @@
 // What an instruction must keep in a function that has it.
-ghost use Rattle.std.specs.Prelude.{◌≡◌, ℕ, ◌<◌, None, get_or};
+ghost use Rattle.std.specs.Prelude.{◌≡◌, ℕ, ◌<◌, None, get_or, drop, take};
 ghost use Rattle.std.specs.List.{range_with_len};
 ghost use Rattle.parts.specs.Content.{shown};
 ghost use Rattle.rules.specs.Types.{number, local_type};
@@ -15,7 +15,8 @@ use content::function::Function;
 use content::instruction::Instruction;
 use content::kind::Kind;
 use parts::image::Image;
-use parts::items::instruction_at;
+use parts::items::INSTRUCTION;
+use records::rows::read_or;
 
 // A function among the lists that it stands in.
 #[derive(Clone, Copy)]
@@ -173,21 +174,27 @@ impl<'a> Scope<'a> {
                 && (i as u64 + 1 != self.function.count as u64 || ends(instruction)),
         }
     }
-    // The same of what stands there; an instruction that isn't there breaks nothing.
-    fn passes_at(&self, rule: Rule, i: u32) -> bool
-        ensures { result ≡ place_keeps rule (shown self.now.image.now) self.now.function.now i }
+
+    // Its instructions, as many of them as are there.
+    fn rows(&self) -> &'a [[[u8; 4]; 4]]
+        ensures { result.now ≡ take self.now.function.now.count (drop self.now.function.now.first self.now.image.now.code.now) }
     {
-        match instruction_at(self.image.code, self.function.first as usize + i as usize) {
-            Some(instruction) => self.passes(rule, i, instruction),
-            None => true,
-        }
+        let Function { first, count, .. } = *self.function;
+        let rows = self.image.code.get(first as usize..).unwrap_or(&[]);
+        rows.get(..count as usize).unwrap_or(rows)
     }
 
-    // The first place of the function where its instruction breaks the rule.
+    // The first place of the function where its instruction breaks the rule; one that isn't there breaks nothing.
     pub(crate) fn broken_at(&self, rule: Rule) -> Option<u32>
         ensures { result ≡ first_in (place_keeps rule (shown self.now.image.now) self.now.function.now) (range_with_len 0 self.now.function.now.count) }
     {
-        (0..self.function.count).find(|i| !self.passes_at(rule, *i))
+        let rows = self.rows();
+        for (i, row) in rows.iter().enumerate() {
+            if !self.passes(rule, i as u32, read_or(row, INSTRUCTION)) {
+                return Some(i as u32);
+            }
+        }
+        None
     }
 }
 

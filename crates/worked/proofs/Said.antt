@@ -14,6 +14,7 @@ use Rattle.header.specs.declared.header.Header.{Header}
 use Rattle.parts.specs.declared.parts.Parts.{Parts}
 use Rattle.rules.specs.declared.rule.Rule.TheVariants.{Names, Types}
 use Rattle.rules.specs.Judging.{Kept, broken}
+use Rattle.rules.proofs.Keeps.{unbroken_kept}
 use Rattle.rules.proofs.Firsts.{at_range}
 use Rattle.sensitivity.specs.Sensitive.{ChainFrom, here, link, Sensitive}
 use Rattle.tables.specs.Tables.{AllPlaced, LaidOut, layout_at}
@@ -27,10 +28,10 @@ use Rattle.worked.specs.Worked.{four}
 use Rattle.worked.proofs.Shown.{kinds, both, to_number, unending}
 
 names : Kept Names four
-names = each_list (λ l. broken Names four l ≡ None) refl refl refl refl refl refl
+names = unbroken_kept Names four (each_list (λ l. broken Names four l ≡ None) refl refl refl refl refl refl)
 
 types : Kept Types four
-types = each_list (λ l. broken Types four l ≡ None) refl refl refl refl refl refl
+types = unbroken_kept Types four (each_list (λ l. broken Types four l ≡ None) refl refl refl refl refl refl)
 
 follows : Follows (image_of four) four
 unfolding image_of
