@@ -56,7 +56,8 @@ fn go_on<S: Store<Entry = Marked>>(run: &mut Run<S>, memory: &mut [u32], room: V
 }
 
 impl<S: Store<Entry = Marked> + Drop> Board<S> {
-    // The run takes the loose store for itself, and any earlier run is gone.
+    // The run takes the loose store for itself, and any earlier run is gone. It stands alone, as whole modules are moved here, and no other line should pay for the room.
+    #[inline(never)]
     fn begin(&mut self) -> Report
         ensures { Ran S.entry S.taken S.kept self.old (Ok result) self.new line.Begin }
     {

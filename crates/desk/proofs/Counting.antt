@@ -24,8 +24,8 @@ module _ (m : Module) where
       let few : m.parts.header.counts.types ≤ 64 = m.parts.header.few.few_types in
       omega (arith, ap (λ (k : Content). length k.types) is, length-take m.parts.header.counts.types m.parts.types)
 
-  pub all_types : (l : Lists) (n : ℕ) (text : List ℕ) → viewed l ≡ said m → n ≡ length l.types.now → text ≡ numbered m.sensitive n → text ≡ numbered m.sensitive (length (said m).types)
-  all_types l n text is all listed = listed ∙ ap (numbered m.sensitive) (all ∙ ap (λ (k : Content). length k.types) is)
+  pub all_types : (l : Lists) (n : ℕ) (before text : List ℕ) → viewed l ≡ said m → n ≡ length l.types.now → text ≡ before ++ numbered m.sensitive n → text ≡ before ++ numbered m.sensitive (length (said m).types)
+  all_types l n before text is all listed = listed ∙ ap (λ k. before ++ numbered m.sensitive k) (all ∙ ap (λ (k : Content). length k.types) is)
 
   pub listed : (text : String Global) → string_bytes text ≡ codes "sensitive" ++ (numbered m.sensitive (length (said m).types) ++ codes "\n") → IsText (ListedSo (said m)) (Text text)
   listed text told = (text, refl, (m.sensitive, m.right, told))

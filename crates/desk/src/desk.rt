@@ -1,5 +1,5 @@
 // What a script has made so far.
-ghost use Rattle.std.specs.Prelude.{◌≡◌, [], None, vec_items};
+ghost use Rattle.std.specs.Prelude.{◌≡◌, [], ◌∷◌, None, vec_items};
 ghost use Rattle.words.specs.Words.{words};
 ghost use Rattle.image_lines.specs.Asks.{asked};
 ghost use Rattle.module.specs.Modules.{fresh, said};
@@ -8,11 +8,11 @@ ghost use Rattle.desk.specs.Heard.{ByRuns, ByStores, Heard, OfModule, unread};
 use crate::doing::{list_sensitive, read_image, write_image};
 use crate::told::Told;
 use board::board::Board;
-use image_lines::line::{ImageLine, parse as parse_image};
+use image_lines::line::{ImageLine, asked as ask_module};
 use replay::build::Loose;
 use replay::obey::obey;
-use run_lines::line::parse as parse_run;
-use script::line::parse as parse_store;
+use run_lines::line::asked as ask_run;
+use script::line::asked as ask_store;
 use std::alloc::{AllocError, Global};
 use stores::store::Store;
 use words::fault::Fault;
@@ -23,13 +23,14 @@ pub struct Desk {
     board: Board<Loose>,
 }
 
-// A line that no table has.
-fn unread(number: u64, line: &[u8]) -> Told
-    ensures { result ≡ unread number (words line.now) }
+// What is told of a line that no table has, by its first word.
+fn unread(number: u64, word: &[u8], words: &Words) -> Told
+    ensures { result ≡ unread number (word.now ∷ words.now) }
 {
-    match Words::of(line).next() {
-        Some(word) if !word.starts_with(b"#") => Told::Faulty(number, Fault::Word),
-        _ => Told::Silent,
+    if word.starts_with(b"#") {
+        Told::Silent
+    } else {
+        Told::Faulty(number, Fault::Word)
     }
 }
 
@@ -56,34 +57,64 @@ impl Desk {
         }
     }
 
-    fn reply_of_store(&mut self, heap: Global, number: u64, line: &[u8]) -> Result<Told, AllocError>
-        ensures { ByStores ⟦<Loose as Store>⟧.entry ⟦<Loose as Store>⟧.taken ⟦<Loose as Store>⟧.kept self.old.board number result self.new.board (words line.now) }
+    fn reply_of_store(
+        &mut self,
+        heap: Global,
+        number: u64,
+        verb: &[u8],
+        words: &mut Words,
+    ) -> Result<Told, AllocError>
+        ensures { ByStores ⟦<Loose as Store>⟧.entry ⟦<Loose as Store>⟧.taken ⟦<Loose as Store>⟧.kept self.old.board number result self.new.board (verb.now ∷ words.old) }
     {
-        match parse_store(line) {
+        match ask_store(verb, words) {
             Some(Ok(command)) => Ok(Told::Answered(obey(&mut self.board.loose, heap, command)?)),
             Some(Err(fault)) => Ok(Told::Faulty(number, fault)),
-            None => Ok(unread(number, line)),
+            None => Ok(unread(number, verb, words)),
         }
     }
 
-    fn reply_of_run(&mut self, heap: Global, number: u64, line: &[u8]) -> Result<Told, AllocError>
-        ensures { ByRuns ⟦<Loose as Store>⟧.entry ⟦<Loose as Store>⟧.taken ⟦<Loose as Store>⟧.kept self.old.board number result self.new.board (words line.now) }
+    fn reply_of_run(
+        &mut self,
+        heap: Global,
+        number: u64,
+        verb: &[u8],
+        words: &mut Words,
+    ) -> Result<Told, AllocError>
+        ensures { ByRuns ⟦<Loose as Store>⟧.entry ⟦<Loose as Store>⟧.taken ⟦<Loose as Store>⟧.kept self.old.board number result self.new.board (verb.now ∷ words.old) }
     {
-        match parse_run(line) {
+        match ask_run(verb, words) {
             Some(Ok(asked)) => Ok(Told::Ran(self.board.run(heap, asked)?)),
             Some(Err(fault)) => Ok(Told::Faulty(number, fault)),
-            None => self.reply_of_store(heap, number, line),
+            None => self.reply_of_store(heap, number, verb, words),
+        }
+    }
+
+    fn reply_of_module(
+        &mut self,
+        heap: Global,
+        number: u64,
+        verb: &[u8],
+        words: &mut Words,
+    ) -> Result<Told, AllocError>
+        ensures { Heard ⟦<Loose as Store>⟧.entry ⟦<Loose as Store>⟧.taken ⟦<Loose as Store>⟧.kept self.old.board number result self.new.board (verb.now ∷ words.old) }
+    {
+        match ask_module(verb, words) {
+            Some(Ok(asked)) => self.tell(heap, asked),
+            Some(Err(fault)) => Ok(Told::Faulty(number, fault)),
+            None => self.reply_of_run(heap, number, verb, words),
         }
     }
 
     // Does what the line asks for. Fails only for want of memory, and then changes nothing.
+    #[tactic(auto, unfolding(words::specs::Forms::read))]
     pub fn reply(&mut self, heap: Global, number: u64, line: &[u8]) -> Result<Told, AllocError>
         ensures { Heard ⟦<Loose as Store>⟧.entry ⟦<Loose as Store>⟧.taken ⟦<Loose as Store>⟧.kept self.old.board number result self.new.board (words line.now) }
     {
-        match parse_image(line) {
-            Some(Ok(asked)) => self.tell(heap, asked),
-            Some(Err(fault)) => Ok(Told::Faulty(number, fault)),
-            None => self.reply_of_run(heap, number, line),
+        // The first word is cut once, and each table is asked for it.
+        let mut words = Words::of(line);
+        match words.next() {
+            Some(verb) => self.reply_of_module(heap, number, verb, &mut words),
+            None => Ok(Told::Silent),
         }
     }
 }

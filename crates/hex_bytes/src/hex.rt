@@ -70,13 +70,21 @@ fn push_byte(text: &mut String, b: u8) -> Result<(), AllocError>
     Ok(())
 }
 
+// Puts the digits of the bytes behind a text.
+pub fn push_hex(text: &mut String, bytes: &[u8]) -> Result<(), AllocError>
+    ensures { OnOk result (string_bytes text.new ≡ string_bytes text.old ++ hex_of bytes.now) }
+{
+    for b in bytes {
+        push_byte(text, *b)?;
+    }
+    Ok(())
+}
+
 // The digits of the bytes.
 pub fn hex_of(heap: Global, bytes: &[u8]) -> Result<String, AllocError>
     ensures { IfOk result (λ s. string_bytes s ≡ hex_of bytes.now) }
 {
     let mut text = String::new(heap);
-    for b in bytes {
-        push_byte(&mut text, *b)?;
-    }
+    push_hex(&mut text, bytes)?;
     Ok(text)
 }

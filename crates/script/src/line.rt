@@ -1,5 +1,5 @@
 // A line of a script, read into what it asks for.
-ghost use Rattle.std.specs.Prelude.{◌≡◌, ◌∷◌};
+ghost use Rattle.std.specs.Prelude.{◌≡◌, ◌∷◌, IfNone};
 ghost use Rattle.words.specs.Forms.{ends, largest, number, one_of, part, read};
 ghost use Rattle.words.specs.Words.{words as split};
 ghost use Rattle.script.specs.Lines.{makes, shape, sized, stores, value};
@@ -77,10 +77,11 @@ fn address(words: &mut Words) -> Result<u32, Fault>
     Ok(address)
 }
 
-// The verb is read before it is known who reads the other words, so that both are handed on.
+// What is asked by a line's first word and those behind it; or nothing, and none is taken, where that isn't about stores. The verb is read before it is known who reads the other words, so that both are handed on.
 #[tactic(auto, unfolding(words::specs::Forms::read))]
-fn asked(verb: &[u8], words: &mut Words) -> Option<Result<Command, Fault>>
-    ensures { result ≡ read stores (verb.now ∷ words.old) }
+pub fn asked(verb: &[u8], words: &mut Words) -> Option<Result<Command, Fault>>
+    ensures asked { result ≡ read stores (verb.now ∷ words.old) }
+    ensures left { IfNone result (words.new ≡ words.old) }
 {
     if verb == b"store".as_slice() {
         Some(shape(words).map(Command::Build))

@@ -12,14 +12,17 @@ fn all_digits(word: &[u8]) -> bool
     word.iter().all(u8::is_ascii_digit)
 }
 
-// The value of the word's digits, or the largest of 64 bits where it is beyond that.
+// Beyond every number.
+const BEYOND: u64 = 0x1_0000_0000;
+
+// The value of the word's digits, or 2^32 where it is beyond that. What is cut before a step needs no test within it.
 fn value(digits: &[u8]) -> u64
-    ensures { result ≡ min (value digits.now) (2 ^ 64 - 1) }
+    ensures { result ≡ min (value digits.now) (2 ^ 32) }
 {
-    digits.iter().fold(0, |n: u64, digit| {
-        n.saturating_mul(10)
-            .saturating_add(u64::from(digit.saturating_sub(b'0')))
-    })
+    let sum = digits.iter().fold(0, |n: u64, digit| {
+        n.min(BEYOND) * 10 + u64::from(digit.saturating_sub(b'0'))
+    });
+    sum.min(BEYOND)
 }
 
 // A number that is at most `most`. Not by `parse`, which takes a sign and tells no number too large from no number.

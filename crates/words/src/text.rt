@@ -24,7 +24,7 @@ pub(crate) fn cut(text: &[u8], stop: u8) -> (&[u8], &[u8])
 
 // The first line, and the text behind its end.
 #[tactic(auto, using(crate::proofs::Splits::one_past))]
-pub(crate) fn split_line(text: &[u8]) -> (&[u8], &[u8])
+pub fn split_line(text: &[u8]) -> (&[u8], &[u8])
     ensures line { result.0.now ≡ before_first (λ b. b == 10) text.now }
     ensures rest { result.1.now ≡ after_first (λ b. b == 10) text.now }
     ensures shorter { 0 < length text.now → length result.1.now < length text.now }
