@@ -1,5 +1,5 @@
 // The image that stands in a file.
-use anyhow::{Context, anyhow};
+use anyhow::Context;
 use module::module::Module;
 use std::fs;
 use std::io::Read;
@@ -16,12 +16,18 @@ pub(crate) fn read_image(rt: &HostRuntime, path: &str) -> anyhow::Result<Vec<u8>
     Ok(image)
 }
 
-// The module of the image, unless it is refused.
-pub(crate) fn read_module(rt: &HostRuntime, path: &str) -> anyhow::Result<Module> {
+// Makes the module the one of the image, and says whether it is one; if not, why is told. Not by an error: it has room for so many bytes alone, and the path would take them. Into a module that stands, since one that is handed on is copied.
+pub(crate) fn read_module(
+    rt: &HostRuntime,
+    path: &str,
+    module: &mut Module,
+) -> anyhow::Result<bool> {
     let image = read_image(rt, path)?;
-    let mut module = Module::new();
-    module
-        .read(image.as_slice())
-        .map_err(|fault| anyhow!("{path} is refused, {fault}"))?;
-    Ok(module)
+    match module.read(image.as_slice()) {
+        Ok(()) => Ok(true),
+        Err(fault) => {
+            eprintln!(rt; "k4: {path} is refused, {fault}")?;
+            Ok(false)
+        }
+    }
 }

@@ -8,6 +8,7 @@ mod state;
 
 use anyhow::anyhow;
 use desk::desk::Desk;
+use desk::told::Told;
 use judge::judge_file;
 use show::show_file;
 use state::state_file;
@@ -26,10 +27,19 @@ fn replay(rt: &HostRuntime) -> anyhow::Result<()> {
     rt.stdin().read_to_end(&mut script)?;
     let mut desk = Desk::new(heap);
     for (number, line) in (1u64..).zip(Lines::of(&script)) {
-        let told = desk.reply(heap, number, line)?;
-        rt.print(told)?;
+        match desk.reply(heap, number, line)? {
+            // To print nothing would cost as much as a short answer.
+            Told::Silent => {}
+            told => rt.print(told)?,
+        }
     }
     Ok(())
+}
+
+// Not by an error, which has no room for a long word.
+fn no_command(rt: &HostRuntime, command: &str) -> anyhow::Result<ExitCode> {
+    eprintln!(rt; "k4: '{command}' is no command; 'k4 help' lists them")?;
+    Ok(ExitCode::FAILURE)
 }
 
 // A command on the file that the next word names.
@@ -38,7 +48,7 @@ fn on_file(rt: &HostRuntime, command: &str, path: &str) -> anyhow::Result<ExitCo
         "judge" => judge_file(rt, path),
         "show" => show_file(rt, path),
         "state" => state_file(rt, path),
-        _ => Err(anyhow!("'{command}' is no command; 'k4 help' lists them")),
+        _ => no_command(rt, command),
     }
 }
 
@@ -56,7 +66,7 @@ fn on_words(rt: &HostRuntime, command: &str, path: Option<&str>) -> anyhow::Resu
         ("judge" | "show" | "state", None) => Err(anyhow!(
             "'{command}' wants a file: k4 {command} FILE"
         )),
-        _ => Err(anyhow!("'{command}' is no command; 'k4 help' lists them")),
+        _ => no_command(rt, command),
     }
 }
 

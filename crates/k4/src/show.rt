@@ -95,7 +95,10 @@ fn show_functions(rt: &HostRuntime, module: &Module) -> anyhow::Result<()> {
 }
 
 pub(crate) fn show_file(rt: &HostRuntime, path: &str) -> anyhow::Result<ExitCode> {
-    let module = read_module(rt, path)?;
+    let mut module = Module::new();
+    if !read_module(rt, path, &mut module)? {
+        return Ok(ExitCode::FAILURE);
+    }
     let lists = module.lists();
     let (memory, depth) = (lists.memory, lists.depth);
     let frames = module.frames();

@@ -63,7 +63,10 @@ const PROMISE: &str =
     "Promised of every run of this module, whatever the panel writes into the memory between two calls, on every store, and for all sequences of calls of step and go: it enters no function but those that can be entered, and through a pointer none but those told so. Not promised is anything of time, of heat, of what the panel shows, of what is written while a call is under way, or of a module that is refused; nor that a run goes on: it may stop, and says why.\n";
 
 pub(crate) fn state_file(rt: &HostRuntime, path: &str) -> anyhow::Result<ExitCode> {
-    let module = read_module(rt, path)?;
+    let mut module = Module::new();
+    if !read_module(rt, path, &mut module)? {
+        return Ok(ExitCode::FAILURE);
+    }
     tell_functions(rt, &module)?;
     rt.print(PROMISE)?;
     Ok(ExitCode::SUCCESS)
