@@ -1,3 +1,2 @@
 pub mod Heard
 pub mod Shown
-pub mod inside

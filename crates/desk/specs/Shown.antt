@@ -18,10 +18,14 @@ shown_told (Read (Ok _)) = codes "accepted\n"
 shown_told (Read (Err f)) = codes "refused " ++ (refusal_text (refusal_of f) ++ codes "\n")
 shown_told (Text t) = string_bytes t
 
--- how many bytes were written, or why none, and then all bytes in hex
+-- how many bytes were written, or why none
+abbrev pub wrote_front : Result ℕ TooShort → List ℕ
+wrote_front (Ok n) = codes "wrote " ++ (decimal n ++ codes "\nbytes ")
+wrote_front (Err _) = codes "refused " ++ (refusal_text too_short ++ codes "\nbytes ")
+
+-- that, and then all bytes in hex
 abbrev pub wrote_text : Result ℕ TooShort → List ℕ → List ℕ
-wrote_text (Ok n) hex = codes "wrote " ++ (decimal n ++ (codes "\nbytes " ++ (hex ++ codes "\n")))
-wrote_text (Err _) hex = codes "refused " ++ (refusal_text too_short ++ (codes "\nbytes " ++ (hex ++ codes "\n")))
+wrote_text answer hex = wrote_front answer ++ (hex ++ codes "\n")
 
 -- the numbers below n that are marked, rising, each after a blank
 abbrev pub numbered : List Bool → ℕ → List ℕ

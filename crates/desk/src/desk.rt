@@ -24,8 +24,8 @@ pub struct Desk {
 }
 
 // What is told of a line that no table has, by its first word.
-fn unread(number: u64, word: &[u8], words: &Words) -> Told
-    ensures { result ≡ unread number (word.now ∷ words.now) }
+fn unread(number: u64, word: &[u8], rest: &[u8]) -> Told
+    ensures { result ≡ unread number (word.now ∷ words rest.now) }
 {
     if word.starts_with(b"#") {
         Told::Silent
@@ -62,14 +62,14 @@ impl Desk {
         heap: Global,
         number: u64,
         verb: &[u8],
-        words: &mut Words,
+        rest: &[u8],
     ) -> Result<Told, AllocError>
-        ensures { ByStores ⟦<Loose as Store>⟧.entry ⟦<Loose as Store>⟧.taken ⟦<Loose as Store>⟧.kept self.old.board number result self.new.board (verb.now ∷ words.old) }
+        ensures { ByStores ⟦<Loose as Store>⟧.entry ⟦<Loose as Store>⟧.taken ⟦<Loose as Store>⟧.kept self.old.board number result self.new.board (verb.now ∷ words rest.now) }
     {
-        match ask_store(verb, words) {
+        match ask_store(verb, rest) {
             Some(Ok(command)) => Ok(Told::Answered(obey(&mut self.board.loose, heap, command)?)),
             Some(Err(fault)) => Ok(Told::Faulty(number, fault)),
-            None => Ok(unread(number, verb, words)),
+            None => Ok(unread(number, verb, rest)),
         }
     }
 
@@ -78,14 +78,14 @@ impl Desk {
         heap: Global,
         number: u64,
         verb: &[u8],
-        words: &mut Words,
+        rest: &[u8],
     ) -> Result<Told, AllocError>
-        ensures { ByRuns ⟦<Loose as Store>⟧.entry ⟦<Loose as Store>⟧.taken ⟦<Loose as Store>⟧.kept self.old.board number result self.new.board (verb.now ∷ words.old) }
+        ensures { ByRuns ⟦<Loose as Store>⟧.entry ⟦<Loose as Store>⟧.taken ⟦<Loose as Store>⟧.kept self.old.board number result self.new.board (verb.now ∷ words rest.now) }
     {
-        match ask_run(verb, words) {
+        match ask_run(verb, rest) {
             Some(Ok(asked)) => Ok(Told::Ran(self.board.run(heap, asked)?)),
             Some(Err(fault)) => Ok(Told::Faulty(number, fault)),
-            None => self.reply_of_store(heap, number, verb, words),
+            None => self.reply_of_store(heap, number, verb, rest),
         }
     }
 
@@ -94,14 +94,14 @@ impl Desk {
         heap: Global,
         number: u64,
         verb: &[u8],
-        words: &mut Words,
+        rest: &[u8],
     ) -> Result<Told, AllocError>
-        ensures { Heard ⟦<Loose as Store>⟧.entry ⟦<Loose as Store>⟧.taken ⟦<Loose as Store>⟧.kept self.old.board number result self.new.board (verb.now ∷ words.old) }
+        ensures { Heard ⟦<Loose as Store>⟧.entry ⟦<Loose as Store>⟧.taken ⟦<Loose as Store>⟧.kept self.old.board number result self.new.board (verb.now ∷ words rest.now) }
     {
-        match ask_module(verb, words) {
+        match ask_module(verb, rest) {
             Some(Ok(asked)) => self.tell(heap, asked),
             Some(Err(fault)) => Ok(Told::Faulty(number, fault)),
-            None => self.reply_of_run(heap, number, verb, words),
+            None => self.reply_of_run(heap, number, verb, rest),
         }
     }
 
@@ -113,7 +113,7 @@ impl Desk {
         // The first word is cut once, and each table is asked for it.
         let mut words = Words::of(line);
         match words.next() {
-            Some(verb) => self.reply_of_module(heap, number, verb, &mut words),
+            Some(verb) => self.reply_of_module(heap, number, verb, words.rest()),
             None => Ok(Told::Silent),
         }
     }

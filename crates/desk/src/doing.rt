@@ -3,8 +3,7 @@ ghost use Rattle.std.specs.Prelude.{◌≡◌, ◌++◌, [], codes, cond, decima
 ghost use Rattle.hex_bytes.specs.Hex.{bytes_of, hex_of};
 ghost use Rattle.module.specs.Modules.{image as image_of, said};
 ghost use Rattle.desk.specs.Heard.{IsText, ListedSo, ReadSo, WroteSo};
-ghost use Rattle.desk.specs.Shown.{numbered, wrote_text};
-ghost use Rattle.desk.specs.inside.Fronts.{wrote_front};
+ghost use Rattle.desk.specs.Shown.{numbered, wrote_front, wrote_text};
 
 use crate::told::Told;
 use hex_bytes::hex::{bytes_of, push_hex};
@@ -64,7 +63,7 @@ fn wrote_text(
     let room = bytes.len().saturating_mul(2).saturating_add(ROOM);
     let mut text = String::with_capacity(heap, room)?;
     push_front(&mut text, heap, answer)?;
-    push_hex(&mut text, bytes)?;
+    let mut text = push_hex(text, bytes)?;
     text.push_str("\n")?;
     Ok(text)
 }

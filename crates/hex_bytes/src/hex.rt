@@ -70,21 +70,19 @@ fn push_byte(text: &mut String, b: u8) -> Result<(), AllocError>
     Ok(())
 }
 
-// Puts the digits of the bytes behind a text.
-pub fn push_hex(text: &mut String, bytes: &[u8]) -> Result<(), AllocError>
-    ensures { OnOk result (string_bytes text.new ≡ string_bytes text.old ++ hex_of bytes.now) }
+// The text with the digits of the bytes behind it. It is given away, so that nothing of it is left where memory is wanting.
+pub fn push_hex(mut text: String, bytes: &[u8]) -> Result<String, AllocError>
+    ensures { IfOk result (λ s. string_bytes s ≡ string_bytes text ++ hex_of bytes.now) }
 {
     for b in bytes {
-        push_byte(text, *b)?;
+        push_byte(&mut text, *b)?;
     }
-    Ok(())
+    Ok(text)
 }
 
 // The digits of the bytes.
 pub fn hex_of(heap: Global, bytes: &[u8]) -> Result<String, AllocError>
     ensures { IfOk result (λ s. string_bytes s ≡ hex_of bytes.now) }
 {
-    let mut text = String::new(heap);
-    push_hex(&mut text, bytes)?;
-    Ok(text)
+    push_hex(String::new(heap), bytes)
 }

@@ -1,5 +1,5 @@
 // A line about modules, read into what it asks for.
-ghost use Rattle.std.specs.Prelude.{◌≡◌, ◌∷◌, IfNone};
+ghost use Rattle.std.specs.Prelude.{◌≡◌, ◌∷◌};
 ghost use Rattle.std.specs.Option.{option_map};
 ghost use Rattle.std.specs.Result.{result_map_both};
 ghost use Rattle.words.specs.Words.{words as split};
@@ -54,12 +54,12 @@ fn sensitive<'a>(words: &mut Words<'a>) -> Result<ImageLine<'a>, Fault>
     Ok(ImageLine::Sensitive)
 }
 
-// What is asked by a line's first word and those behind it; or nothing, and none is taken, where that isn't about modules. The verb is read before it is known who reads the other words, so that both are handed on.
+// What is asked by a line's first word and the text behind it; or nothing where that isn't about modules. The verb is read before it is known who reads the other words, so that both are handed on.
 #[tactic(auto, unfolding(words::specs::Forms::read))]
-pub fn asked<'a>(verb: &[u8], words: &mut Words<'a>) -> Option<Result<ImageLine<'a>, Fault>>
-    ensures asked { option_map (result_map_both asked (λ e. e)) result ≡ read modules (verb.now ∷ words.old) }
-    ensures left { IfNone result (words.new ≡ words.old) }
+pub fn asked<'a>(verb: &[u8], rest: &'a [u8]) -> Option<Result<ImageLine<'a>, Fault>>
+    ensures { option_map (result_map_both asked (λ e. e)) result ≡ read modules (verb.now ∷ split rest.now) }
 {
+    let words = &mut Words::of(rest);
     if verb == b"image".as_slice() {
         Some(image(words))
     } else if verb == b"write".as_slice() {
@@ -78,5 +78,5 @@ pub fn parse(line: &[u8]) -> Option<Result<ImageLine, Fault>>
 {
     let mut words = Words::of(line);
     let verb = words.next()?;
-    asked(verb, &mut words)
+    asked(verb, words.rest())
 }

@@ -1,5 +1,5 @@
 // A line about runs or the memory, read into what it asks for.
-ghost use Rattle.std.specs.Prelude.{◌≡◌, ◌∷◌, IfNone};
+ghost use Rattle.std.specs.Prelude.{◌≡◌, ◌∷◌};
 ghost use Rattle.std.specs.Str.{bytes_eq};
 ghost use Rattle.words.specs.Forms.{ends, largest, number, read};
 ghost use Rattle.words.specs.Words.{words as split};
@@ -66,12 +66,12 @@ fn spells(word: &[u8], text: &[u8]) -> bool
     word == text
 }
 
-// What is asked by a line's first word and those behind it; or nothing, and none is taken, where that isn't about runs or the memory. The verb is read before it is known who reads the other words, so that both are handed on.
+// What is asked by a line's first word and the text behind it; or nothing where that isn't about runs or the memory. The verb is read before it is known who reads the other words, so that both are handed on.
 #[tactic(auto, unfolding(words::specs::Forms::read))]
-pub fn asked(verb: &[u8], words: &mut Words) -> Option<Result<RunLine, Fault>>
-    ensures asked { result ≡ read runs (verb.now ∷ words.old) }
-    ensures left { IfNone result (words.new ≡ words.old) }
+pub fn asked(verb: &[u8], rest: &[u8]) -> Option<Result<RunLine, Fault>>
+    ensures { result ≡ read runs (verb.now ∷ split rest.now) }
 {
+    let words = &mut Words::of(rest);
     let line = if spells(verb, b"memory") {
         number(MOST_WORDS, words).map(RunLine::Memory)
     } else if spells(verb, b"poke") {
@@ -105,5 +105,5 @@ pub fn parse(line: &[u8]) -> Option<Result<RunLine, Fault>>
 {
     let mut words = Words::of(line);
     let verb = words.next()?;
-    asked(verb, &mut words)
+    asked(verb, words.rest())
 }

@@ -1,5 +1,5 @@
 // A line of a script, read into what it asks for.
-ghost use Rattle.std.specs.Prelude.{◌≡◌, ◌∷◌, IfNone};
+ghost use Rattle.std.specs.Prelude.{◌≡◌, ◌∷◌};
 ghost use Rattle.words.specs.Forms.{ends, largest, number, one_of, part, read};
 ghost use Rattle.words.specs.Words.{words as split};
 ghost use Rattle.script.specs.Lines.{makes, shape, sized, stores, value};
@@ -77,12 +77,12 @@ fn address(words: &mut Words) -> Result<u32, Fault>
     Ok(address)
 }
 
-// What is asked by a line's first word and those behind it; or nothing, and none is taken, where that isn't about stores. The verb is read before it is known who reads the other words, so that both are handed on.
+// What is asked by a line's first word and the text behind it; or nothing where that isn't about stores. The verb is read before it is known who reads the other words, so that both are handed on.
 #[tactic(auto, unfolding(words::specs::Forms::read))]
-pub fn asked(verb: &[u8], words: &mut Words) -> Option<Result<Command, Fault>>
-    ensures asked { result ≡ read stores (verb.now ∷ words.old) }
-    ensures left { IfNone result (words.new ≡ words.old) }
+pub fn asked(verb: &[u8], rest: &[u8]) -> Option<Result<Command, Fault>>
+    ensures { result ≡ read stores (verb.now ∷ split rest.now) }
 {
+    let words = &mut Words::of(rest);
     if verb == b"store".as_slice() {
         Some(shape(words).map(Command::Build))
     } else if verb == b"put".as_slice() {
@@ -105,5 +105,5 @@ pub fn parse(line: &[u8]) -> Option<Result<Command, Fault>>
 {
     let mut words = Words::of(line);
     let verb = words.next()?;
-    asked(verb, &mut words)
+    asked(verb, words.rest())
 }

@@ -44,6 +44,13 @@ impl<'a> Words<'a> {
     {
         Words { rest: line }
     }
+
+    // The text of the words that are left.
+    pub fn rest(&self) -> &'a [u8]
+        ensures { words result.now ≡ self.now }
+    {
+        &self.rest[..]
+    }
 }
 
 impl<'a> Iterator for Words<'a> {
